@@ -1,0 +1,5 @@
+pub mod Number
+pub mod Order
+pub mod Places
+pub mod Theorem
+pub mod Words

@@ -1,0 +1,69 @@
+// The calls on a table at rest: check, count and list. They need no phase.
+use state::Phase;
+use state::Refusal;
+use state::Reply;
+ghost use mathlib.Core.Path.{_≡_};
+ghost use Rattle.layout.specs.Home.{modulo};
+ghost use Rattle.state.specs.Limits.{gateway};
+ghost use Rattle.rest.specs.Calls.{checkCall, countCall, listCall, listAfter, listFront};
+
+// How many keys a table has, or why it is not said.
+pub enum Counted {
+    Keys(usize),
+    Refused(Refusal),
+}
+
+// Whether the table is sound.
+pub fn check(cells: &[u32]) -> Reply
+    ensures { λ r. ⌜ r ≡ checkCall gateway modulo (now (cells .entry)) ⌝ }
+{
+    if !Phase::size_ok(cells.len()) {
+        return Reply::Refused(Refusal::Size);
+    }
+    if soundness::is_sound(cells) {
+        Reply::Accepted
+    } else {
+        Reply::Refused(Refusal::Unsound)
+    }
+}
+
+// How many keys the table has.
+pub fn count(cells: &[u32]) -> Counted
+    ensures { λ r. ⌜ r ≡ countCall gateway modulo (now (cells .entry)) ⌝ }
+{
+    let checked = check(cells);
+    match checked {
+        Reply::Accepted => Counted::Keys(listing::count_keys(cells)),
+        Reply::Refused(why) => Counted::Refused(why),
+    }
+}
+
+// Lists the keys in cell order at the front of `out`.
+pub fn list(cells: &[u32], out: &mut [u32]) -> Counted
+    ensures { λ r. ⌜ (r ≡ listCall gateway modulo (now (cells .entry)) (now (out .entry))) × (now (out .exit) ≡ listAfter gateway modulo (now (cells .entry)) (now (out .entry))) ⌝ }
+{
+    let checked = check(cells);
+    match checked {
+        Reply::Refused(why) => Counted::Refused(why),
+        Reply::Accepted => {
+            let room = out.len();
+            let count = listing::list_keys(cells, out);
+            if room < count {
+                Counted::Refused(Refusal::ShortList)
+            } else {
+                Counted::Keys(count)
+            }
+        }
+    }
+}
+
+// The same, handing back the filled front part of `out`.
+pub fn list_front<'a>(cells: &[u32], out: &'a mut [u32]) -> &'a mut [u32]
+    ensures { λ r. ⌜ now r ≡ listFront gateway modulo (now (cells .entry)) (now (out .entry)) ⌝ }
+{
+    let listed = list(cells, out);
+    match listed {
+        Counted::Keys(count) => &mut out[..count],
+        Counted::Refused(_) => &mut out[..0],
+    }
+}

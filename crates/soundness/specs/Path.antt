@@ -1,0 +1,17 @@
+-- One key's path, as a test.
+use mathlib.Core.Bool.{Bool, _||_}
+use mathlib.Core.List.{List}
+use Prim.Native.Nat.{ℕ}
+use lib.Dec.{leb, ltb}
+use lib.ListN.{length, getD}
+use Rattle.ring.specs.Ring.{dist}
+use Rattle.layout.specs.Home.{modulo}
+use Rattle.layout.specs.Sound.{all}
+
+-- how many steps on from the home of key x cell c stands
+abbrev pub steps : List ℕ → ℕ → ℕ → ℕ
+steps t x c = dist (length t) (modulo (length t) x) c
+
+-- every cell on the path of key x to cell j holds a greater key
+unfoldable pub clearTo : List ℕ → ℕ → ℕ → Bool
+clearTo t x j = all (λ c. leb (steps t x j) (steps t x c) || ltb x (getD t c 0)) (length t)
