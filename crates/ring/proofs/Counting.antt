@@ -61,6 +61,12 @@ unfolding tally
 tally-max f zero d h = omega arith
 tally-max f (suc n) d h = omega (arith, h n (omega arith), tally-max f n d (λ i l. h i (omega arith)))
 
+-- each part of g is at most m times that of f
+pub tally-times : (f g : ℕ → ℕ) (n m : ℕ) → ((i : ℕ) → i < n → g i ≤ f i * m) → tally g n ≤ tally f n * m
+unfolding tally
+tally-times f g zero m h = omega arith
+tally-times f g (suc n) m h = omega (arith, h n (omega arith), tally-times f g n m (λ i l. h i (omega arith)))
+
 -- no part is greater, and one is less
 pub tally-less : (f g : ℕ → ℕ) (n i : ℕ) → i < n → ((j : ℕ) → j < n → f j ≤ g j) → f i < g i → tally f n < tally g n
 unfolding tally

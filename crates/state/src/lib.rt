@@ -100,6 +100,12 @@ pub struct Phase {
     pub workers: [Worker; Phase::MOST_WORKERS],
 }
 
+// A phase with the answer of the call that gave it.
+pub struct Replied {
+    pub phase: Phase,
+    pub reply: Reply,
+}
+
 impl Phase {
     pub const FEWEST_CELLS: usize = 2;
 

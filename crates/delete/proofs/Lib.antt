@@ -1,0 +1,14 @@
+pub mod Bound
+pub mod Cases
+pub mod Charges
+pub mod Copies
+pub mod Depth
+pub mod Doomed
+pub mod Ends
+pub mod Invariant
+pub mod Kept
+pub mod Potential
+pub mod Runs
+pub mod Setting
+pub mod Steps
+pub mod Theorem

@@ -1,0 +1,165 @@
+-- Every accepted operation and every step keeps the invariant; and every counted step takes its worker one cell nearer to its end.
+use mathlib.Core.Path.{_≡_, refl, sym, ap, _∙_}
+use mathlib.Core.Logic.{_≢_}
+use mathlib.Core.List.{List, _++_}
+use Prim.Native.Nat.{ℕ, _+_, _*_, _≤_, _<_}
+use native.Mathlib.Omega.{arith}
+use lib.Dec.{eqb}
+use lib.ListN.{length, getD, set, length-set, length-replicate}
+use lib.Seq.{set-getD}
+use borrow.Author.Tests.{ne-eqb}
+use Rattle.ring.specs.Counting.{bit, over, count}
+use Rattle.ring.specs.Ring.{next}
+use Rattle.ring.proofs.Counting.{tally-max}
+use Rattle.ring.proofs.Ring.{dist-lt}
+use Rattle.layout.specs.Sound.{Sound}
+use Rattle.layout.proofs.Path.{On, home-dist, on-home, next-dist, on-next, passed, found-here}
+use Rattle.layout.proofs.Sets.{held-in, in-holds}
+use Rattle.layout.proofs.Sound.{sound-paths}
+use Rattle.state.specs.declared.Activity.{Activity}
+use Rattle.state.specs.declared.Activity.the-variants.{Idle, Reading, Replacing, WalkingBack, SeekingForward, SeekingBack}
+use Rattle.rule.specs.declared.Answer.{Answer}
+use Rattle.rule.specs.declared.Answer.the-variants.{WentOn, Yes, No}
+use Rattle.rule.specs.declared.Answer.the-variants as answer
+use Rattle.rule.specs.declared.Outcome.{Outcome}
+use Rattle.rule.specs.Rule.{goes, ends, findStep, rule, start}
+use Rattle.rule.specs.Events.{busy, keyOf, Said, Run, worker, tells, ordered, opened}
+use Rattle.phases.specs.Promise.{Right}
+use Rattle.phases.proofs.Crew.{crew-idle, set-all, opening-sum, moved-sum}
+use Rattle.phases.proofs.Steps.{by-content, cellOf, movedTo, moved}
+use Rattle.find.proofs.Invariant.{Shape, weight, Fair, potential}
+
+-- how many answers there are on y, whether a worker looks for y, and how many do
+abbrev answersOn : ℕ → List Said → ℕ
+answersOn y said = count (λ (a : Said). eqb (a .key) y) said
+
+abbrev looksFor : ℕ → Activity → ℕ
+looksFor y a = bit (eqb (keyOf a) y)
+
+abbrev lookersFor : ℕ → ℕ → List Activity → ℕ
+lookersFor W y ws = over (λ _ a. looksFor y a) Idle W ws
+
+idle-looks : (y : ℕ) → y ≢ 0 → looksFor y Idle ≡ 0
+idle-looks y nz = rw (ne-eqb 0 y (λ z. nz (sym z)))
+
+module _ (n W : ℕ) (home : ℕ → ℕ) where
+  -- each worker reads at most n cells more
+  weight-le : (a : Activity) → weight n home a ≤ n
+  weight-le Idle = omega arith
+  weight-le (Reading v i) = omega arith
+  weight-le (Replacing v k j x) = omega arith
+  weight-le (WalkingBack v k) = omega arith
+  weight-le (SeekingForward v k j) = omega arith
+  weight-le (SeekingBack v k j x p) = omega arith
+
+  pub potential-most : (s : Run) → potential n W home s ≤ W * n
+  unfolding potential
+  potential-most s = tally-max (λ w. weight n home (worker s w)) W n (λ w _. weight-le (worker s w))
+
+module _ (n W : ℕ) (home : ℕ → ℕ) (hb : (x : ℕ) → home x < n) (t : List ℕ) (sound : Sound n home t) where
+  -- ---- the opening
+  pub opening-fair : Fair n W home t (opened 3 W t)
+  unfolding count
+  opening-fair =
+      record {
+        crew = length-replicate W Idle;
+        shape = λ w. rw (crew-idle W w) tt;
+        finds = record { unchanged = refl; right = tt; each = λ y yz. omega (arith, opening-sum (looksFor y) W (idle-looks y yz)) };
+      }
+
+  pub opening-potential : potential n W home (opened 3 W t) ≡ 0
+  unfolding potential
+  opening-potential = opening-sum (weight n home) W refl
+
+  module _ (s : Run) (fair : Fair n W home t s) (w : ℕ) (wl : w < length (s .workers)) where
+    crew-after : (b : Activity) → length (set (s .workers) w b) ≡ W
+    crew-after b = length-set (s .workers) w b ∙ fair .crew
+
+    shape-after : (b : Activity) → Shape n home t b → (u : ℕ) → Shape n home t (getD (set (s .workers) w b) u Idle)
+    shape-after b sb = set-all (Shape n home t) (s .workers) w b wl (fair .shape) sb
+
+    lookers-after : (b : Activity) (y : ℕ) → lookersFor W y (set (s .workers) w b) + looksFor y (worker s w) ≡ lookersFor W y (s .workers) + looksFor y b
+    lookers-after b y = moved-sum (looksFor y) W (s .workers) w b (fair .crew) wl
+
+    -- ---- an accepted operation
+    module _ (v : ℕ) (is : worker s w ≡ Idle) where
+      pub order-fair : v ≢ 0 → Fair n W home t (ordered 3 n home s w v)
+      unfolding ordered count
+      order-fair nz =
+          record {
+            crew = crew-after (start home v);
+            shape = shape-after (start home v) (on-home n home hb t v nz);
+            finds = record {
+              unchanged = fair .finds .unchanged;
+              right = fair .finds .right;
+              each = λ y yz. omega (arith, fair .finds .each y yz, lookers-after (start home v) y, ap (looksFor y) is, idle-looks y yz);
+            };
+          }
+
+      pub order-pays : potential n W home (ordered 3 n home s w v) ≤ potential n W home s + n
+      unfolding ordered potential
+      order-pays = omega (arith, moved-sum (weight n home) W (s .workers) w (start home v) (fair .crew) wl, ap (weight n home) is, home-dist n home hb v)
+
+    -- ---- a step: the invariant is kept, and the potential falls
+    abbrev Next : Activity → Outcome → Type 0
+    Next a o = Fair n W home t (movedTo s w a o) × (busy a + potential n W home (movedTo s w a o) ≤ potential n W home s)
+
+    -- from a to b, with the answer r
+    steps : (a b : Activity) (c : ℕ) (r : Answer) → worker s w ≡ a → set (s .table) (cellOf a) c ≡ t → Shape n home t b → Right t (tells (keyOf a) r ++ s .said)
+        → ((y : ℕ) → y ≢ 0 → answersOn y (tells (keyOf a) r ++ s .said) + looksFor y b ≡ answersOn y (s .said) + looksFor y a)
+        → busy a + weight n home b ≤ weight n home a → Next a (record { activity = b; content = c; answer = r })
+    unfolding potential
+    steps a b c r is same sb right told less = (
+      record {
+        crew = crew-after b;
+        shape = shape-after b sb;
+        finds = record {
+          unchanged = same;
+          right = right;
+          each = λ y yz. omega (arith, told y yz, fair .finds .each y yz, lookers-after b y, ap (looksFor y) is);
+        };
+      },
+      omega (arith, moved-sum (weight n home) W (s .workers) w b (fair .crew) wl, ap (weight n home) is, less),
+    )
+
+    -- ---- reading: c is what stands in the cell
+    module _ (v i c : ℕ) (is : worker s w ≡ Reading v i) (o : On n home t v i) (there : getD t i 0 ≡ c) (same : set (s .table) i c ≡ t) where
+      reads-on : v < c → Next (Reading v i) (goes (Reading v (next n i)) c)
+      reads-on l =
+          let a = passed n home hb t v i o (omega arith) in
+          let on = on-next n home hb t v i (o .inside) (sound .gap) a (o .key) in
+          steps (Reading v i) (Reading v (next n i)) c WentOn is same on (fair .finds .right) (λ y yz. refl)
+          (omega (arith, next-dist n home hb t v i (o .inside) (sound .gap) a, dist-lt n (home v) (hb v) (next n i) (on .inside)))
+
+      answers : (r : Answer) → Right t (tells v r ++ s .said) → ((y : ℕ) → answersOn y (tells v r ++ s .said) ≡ looksFor y (Reading v i) + answersOn y (s .said))
+          → Next (Reading v i) (ends r c)
+      answers r right one = steps (Reading v i) Idle c r is same tt right (λ y yz. omega (arith, one y, idle-looks y yz)) (omega (arith, dist-lt n (home v) (hb v) i (o .inside)))
+
+      says-yes : c ≡ v → Next (Reading v i) (ends Yes c)
+      unfolding count
+      says-yes z =
+          let held = held-in n t v (sound .sized) (record { cell = i; inside = o .inside; is = there ∙ z }) in
+          answers Yes (o .key, (λ _. held, λ _. tt), fair .finds .right) (λ y. refl)
+
+      says-no : c < v → Next (Reading v i) (ends No c)
+      unfolding count
+      says-no l =
+          let here = found-here n home hb t v i o (sound-paths n home hb t sound) (omega arith) in
+          answers No (o .key, (λ f. absurd f, λ h. absurd (omega (arith, here (in-holds n t v (sound .sized) h)))), fair .finds .right) (λ y. refl)
+
+    by-activity : (a : Activity) (c : ℕ) → worker s w ≡ a → Shape n home t a → getD t (cellOf a) 0 ≡ c → set (s .table) (cellOf a) c ≡ t → Next a (rule 3 n home a c)
+    unfolding rule findStep
+    by-activity Idle c is sh there same = steps Idle Idle c answer.Idle is same tt (fair .finds .right) (λ y yz. refl) (omega arith)
+    by-activity (Reading v i) c is o there same = by-content v c
+        (λ l e. rw e (reads-on v i c is o there same l)) (λ z e d. rw (e, d) (says-yes v i c is o there same z)) (λ l e d. rw (e, d) (says-no v i c is o there same l))
+    by-activity (Replacing v k j x) c is sh there same = absurd sh
+    by-activity (WalkingBack v k) c is sh there same = absurd sh
+    by-activity (SeekingForward v k j) c is sh there same = absurd sh
+    by-activity (SeekingBack v k j x p) c is sh there same = absurd sh
+
+    pub step-keeps : Fair n W home t (moved 3 n home s w) × (busy (worker s w) + potential n W home (moved 3 n home s w) ≤ potential n W home s)
+    unfolding moved
+    step-keeps =
+        let c = cellOf (worker s w) in
+        by-activity (worker s w) (getD (s .table) c 0) refl (fair .shape w)
+        (ap (λ (u : List ℕ). getD u c 0) (sym (fair .finds .unchanged))) (set-getD (s .table) c 0 ∙ fair .finds .unchanged)

@@ -1,0 +1,71 @@
+-- The promises on find phases hold of every sound table, home rule, number of workers and list of events.
+use mathlib.Core.Path.{ap, _∙_}
+use mathlib.Core.List.{List}
+use Prim.Native.Nat.{ℕ, _+_, _*_, _≤_, _<_}
+use native.Mathlib.Omega.{arith}
+use lib.Dec.{T}
+use lib.ListN.{length}
+use Rattle.layout.specs.Sound.{Sound}
+use Rattle.state.specs.declared.Activity.{Activity}
+use Rattle.state.specs.declared.Activity.the-variants.{Idle, Reading, Replacing, WalkingBack, SeekingForward, SeekingBack}
+use Rattle.rule.specs.WellFormed.{activityOk}
+use Rattle.rule.specs.Events.{Run, Event, worker, event, run, opened, after}
+use Rattle.phases.specs.Promise.{mostRest, Always, Finds, stepsOf}
+use Rattle.phases.proofs.Crew.{keyed}
+use Rattle.phases.proofs.Events.{event-by, run-keeps, run-paid}
+use Rattle.phases.proofs.Formula.{under}
+use Rattle.phases.proofs.Rounds.{steps-ordered}
+use Rattle.find.proofs.Invariant.{Shape, Fair, potential}
+use Rattle.find.proofs.Step.{opening-fair, opening-potential, potential-most, order-fair, order-pays, step-keeps}
+
+formed : (n : ℕ) (home : ℕ → ℕ) (t : List ℕ) (a : Activity) → Shape n home t a → T (activityOk 3 n a)
+formed n home t Idle sh = tt
+formed n home t (Reading v i) o = keyed n v i (o .key) (o .inside)
+formed n home t (Replacing v k j x) sh = absurd sh
+formed n home t (WalkingBack v k) sh = absurd sh
+formed n home t (SeekingForward v k j) sh = absurd sh
+formed n home t (SeekingBack v k j x p) sh = absurd sh
+
+module _ (n W : ℕ) (home : ℕ → ℕ) (hb : (x : ℕ) → home x < n) (t : List ℕ) (sound : Sound n home t) where
+  event-fair : (e : Event) (s : Run) → Fair n W home t s → Fair n W home t (event 3 n home e s)
+  event-fair e s h = event-by 3 n home (Fair n W home t) e s h
+      (λ w v l is p _. order-fair n W home hb t sound s h w l v is (omega arith)) (λ w l. step-keeps n W home hb t sound s h w l .0)
+
+  -- from a state on, each operation reads at most n cells
+  steps-paid : (es : List Event) (s : Run) → Fair n W home t s
+      → run 3 n home es s .counted + length (s .ordered) * n ≤ s .counted + potential n W home s + length (run 3 n home es s .ordered) * n
+  steps-paid es s h = run-paid 3 n home (Fair n W home t) (λ _. Unit {0}) (λ r _. potential n W home r) n (λ _ _ _ z. z)
+      (λ r w v g l is p _. (order-fair n W home hb t sound r g w l v is (omega arith), order-pays n W home hb t sound r g w l v is))
+      (λ r w g l. let (a, less) = step-keeps n W home hb t sound r g w l in (a, λ _. less))
+      s h es tt
+
+  module _ (es : List Event) where
+    fair : Fair n W home t (after 3 n W home t es)
+    fair = run-keeps 3 n home (Fair n W home t) event-fair es (opened 3 W t) (opening-fair n W home hb t sound)
+
+    steps-bounded : after 3 n W home t es .counted ≤ length (after 3 n W home t es .ordered) * n
+    steps-bounded = omega (arith, steps-paid es (opened 3 W t) (opening-fair n W home hb t sound), opening-potential n W home hb t sound)
+
+    pub settles : (ws : List ℕ) → run 3 n home (stepsOf ws) (after 3 n W home t es) .counted ≤ after 3 n W home t es .counted + mostRest n W
+    settles ws =
+        let s = after 3 n W home t es in
+        omega (
+          arith,
+          steps-paid (stepsOf ws) s fair,
+          ap (λ (l : List ℕ). length l * n) (steps-ordered 3 n home ws s),
+          potential-most n W home s,
+          under n W (2 * W + 1) n (omega arith),
+        )
+
+    pub finds : Finds W t (after 3 n W home t es)
+    finds = fair .finds
+
+    pub always : Always 3 n W (after 3 n W home t es)
+    always =
+        let s = after 3 n W home t es in
+        record {
+          sized = ap length (finds .unchanged) ∙ sound .sized;
+          crew = fair .crew;
+          formed = λ w. formed n home t (worker s w) (fair .shape w);
+          bounded = omega (arith, steps-bounded, under n W (length (s .ordered)) n (omega arith));
+        }

@@ -1,0 +1,7 @@
+pub mod Crew
+pub mod Events
+pub mod Finishing
+pub mod Formula
+pub mod Rounds
+pub mod Steps
+pub mod Vacant

@@ -1,0 +1,75 @@
+-- Every schedule closes as written. Each is computed as a test, and a law turns the passed test into what the schedule says.
+use mathlib.Core.Path.{_≡_, refl, ap₂}
+use mathlib.Core.Bool.{Bool, true, false, _&&_}
+use mathlib.Core.List.{List, [], _∷_, map}
+use Prim.Native.Nat.{ℕ, zero, suc}
+use lib.Dec.{T, eqb, eqb→eq}
+use lib.ListN.{getD}
+use Rattle.ring.specs.Counting.{count}
+use Rattle.ring.specs.Ring.{wrap, dist, prev}
+use Rattle.layout.proofs.Tests.{and-left, and-right}
+use Rattle.state.specs.declared.Activity.{Activity}
+use Rattle.state.specs.declared.Activity.the-variants.{Idle}
+use Rattle.rule.specs.Events.{Said, Run, busy, stepped, ordered, accepts, event, run}
+use Rattle.rule.specs.Rule.{insertStep, findStep, fits, narrow, deleteStep, rule}
+use Rattle.rule.specs.Schedules.{Schedule, Closes, round, rounds, steps, sameTable, sameBit, sameAnswers, noneBusy, ends, closesAs, closesRight}
+use Rattle.rule.specs.Schedules.{schedules, AllClose, SchedulesPromise}
+use Rattle.rule.proofs.Idle.{rests}
+
+-- ---- what a passed test says
+pub same-table : (xs ys : List ℕ) → T (sameTable xs ys) → xs ≡ ys
+unfolding sameTable
+same-table [] [] p = refl
+same-table [] (y ∷ ys) p = absurd p
+same-table (x ∷ xs) [] p = absurd p
+same-table (x ∷ xs) (y ∷ ys) p =
+    ap₂ (λ (a : ℕ) (l : List ℕ). a ∷ l) (eqb→eq x y (and-left (eqb x y) (sameTable xs ys) p)) (same-table xs ys (and-right (eqb x y) (sameTable xs ys) p))
+
+same-bit : (a b : Bool) → T (sameBit a b) → a ≡ b
+unfolding sameBit
+same-bit true true p = refl
+same-bit true false p = absurd p
+same-bit false true p = absurd p
+same-bit false false p = refl
+
+same-answers : (xs ys : List Bool) → T (sameAnswers xs ys) → xs ≡ ys
+unfolding sameAnswers
+same-answers [] [] p = refl
+same-answers [] (y ∷ ys) p = absurd p
+same-answers (x ∷ xs) [] p = absurd p
+same-answers (x ∷ xs) (y ∷ ys) p =
+    ap₂ (λ (a : Bool) (l : List Bool). a ∷ l) (same-bit x y (and-left (sameBit x y) (sameAnswers xs ys) p)) (same-answers xs ys (and-right (sameBit x y) (sameAnswers xs ys) p))
+
+all-idle : (ws : List Activity) → T (noneBusy ws) → (w : ℕ) → getD ws w Idle ≡ Idle
+unfolding noneBusy
+all-idle [] p w = refl
+all-idle (a ∷ others) p zero = rests a (eqb→eq (busy a) 0 (and-left (eqb (busy a) 0) (noneBusy others) p))
+all-idle (a ∷ others) p (suc w) = all-idle others (and-right (eqb (busy a) 0) (noneBusy others) p) w
+
+pub closes : (s : Schedule) → T (closesRight s) → Closes s
+unfolding closesRight closesAs
+closes s p =
+    let r : Run = ends s in
+    let q = and-right (noneBusy (r .workers)) _ p in
+    record {
+      rest = all-idle (r .workers) (and-left (noneBusy (r .workers)) _ p);
+      table = same-table (r .table) (s .closed) (and-left (sameTable (r .table) (s .closed)) _ q);
+      answers = same-answers (map (λ (a : Said). a .found) (r .said)) (s .answers) (and-right (sameTable (r .table) (s .closed)) _ q);
+    }
+
+-- ---- the test, computed
+unfoldable allClose : List Schedule → Bool
+allClose [] = true
+allClose (s ∷ others) = closesRight s && allClose others
+
+all-say : (ss : List Schedule) → T (allClose ss) → AllClose ss
+unfolding allClose
+all-say [] p = tt
+all-say (s ∷ others) p = (closes s (and-left (closesRight s) (allClose others) p), all-say others (and-right (closesRight s) (allClose others) p))
+
+computed : T (allClose schedules)
+unfolding allClose schedules closesRight closesAs ends noneBusy sameTable sameBit sameAnswers round rounds steps run event accepts ordered stepped rule insertStep findStep deleteStep fits narrow dist prev wrap count
+computed = tt
+
+pub all-close : SchedulesPromise
+all-close = all-say schedules computed
