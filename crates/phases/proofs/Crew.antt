@@ -16,8 +16,12 @@ use Rattle.state.specs.declared.Activity.{Activity}
 use Rattle.state.specs.declared.Activity.the-variants.{Idle}
 use Rattle.rule.specs.WellFormed.{keyedAt}
 
+-- a list of n equal elements
+pub replicate-at {ℓ} : {A : Type ℓ} (a : A) (n i : ℕ) → getD (replicate n a) i a ≡ a
+replicate-at a n i = by-lt i n (getD-replicate n i a a) (λ l. List·getD-eq-default (replicate n a) a (omega (arith, length-replicate n a)))
+
 pub crew-idle : (W w : ℕ) → getD (replicate W Idle) w Idle ≡ Idle
-crew-idle W w = by-lt w W (λ l. getD-replicate W w Idle Idle l) (λ l. List·getD-eq-default (replicate W Idle) Idle (omega (arith, length-replicate W Idle)))
+crew-idle = replicate-at Idle
 
 -- what holds of every worker holds after worker w has moved, if it holds of its new activity
 pub set-all {ℓ} : (P : Activity → Type ℓ) (ws : List Activity) (w : ℕ) (b : Activity) → w < length ws

@@ -1,6 +1,12 @@
 // The phase state (document 01: shift record) with its limits, what a worker may be doing, and the refusals.
+use listing::count_keys;
+use soundness::is_sound;
+ghost use Prim.Native.Nat.{_≤_};
 ghost use mathlib.Core.Path.{_≡_};
+ghost use lib.ListN.{length};
+ghost use Rattle.layout.specs.Home.{modulo};
 ghost use Rattle.state.specs.Limits.{gateway, sizeOk, crewOk};
+ghost use Rattle.state.specs.Open.{kindOk, allowance, fresh, refusedPhase, openCall};
 ghost use Rattle.state.specs.Refusals.{numberOf};
 
 // Why a call is refused: the words of document 01's table, in its order.
@@ -134,6 +140,78 @@ impl Phase {
             false
         } else {
             count <= Self::MOST_WORKERS
+        }
+    }
+
+    // Whether a phase may have this kind.
+    pub fn kind_ok(kind: u64) -> bool
+        ensures { λ r. ⌜ r ≡ kindOk kind ⌝ }
+    {
+        if kind < 1 { false } else { kind <= 3 }
+    }
+
+    // A phase with all workers idle.
+    fn fresh(kind: u32, length: u32, count: u32, left: u32, shut: bool) -> Phase
+        ensures { λ r. ⌜ r ≡ fresh gateway kind length count left shut ⌝ }
+    {
+        let workers = [Worker {
+            activity: Activity::Idle,
+        }; Self::MOST_WORKERS];
+        Phase {
+            kind,
+            length,
+            count,
+            left,
+            shut,
+            workers,
+        }
+    }
+
+    fn refused(why: Refusal) -> Replied
+        ensures { λ r. ⌜ r ≡ record { phase = refusedPhase gateway; reply = Reply.Refused why } ⌝ }
+    {
+        Replied {
+            phase: Self::fresh(3, 2, 1, 0, true),
+            reply: Reply::Refused(why),
+        }
+    }
+
+    // The insert operations that a phase on these cells takes.
+    fn allowance(kind: u64, cells: &[u32]) -> u32
+        requires { ⌜ length (now cells) ≤ gateway .mostCells ⌝ }
+        ensures { λ r. ⌜ r ≡ allowance kind (now (cells .entry)) ⌝ }
+    {
+        if kind != 1 {
+            return 0;
+        }
+        let count = count_keys(cells);
+        if count < cells.len() {
+            (cells.len() - count - 1) as u32
+        } else {
+            0
+        }
+    }
+
+    // Opens a phase of a kind, with a count of workers, on a table.
+    pub fn open(kind: u64, count: u64, cells: &[u32]) -> Replied
+        ensures { λ r. ⌜ r ≡ openCall gateway modulo kind count (now (cells .entry)) ⌝ }
+    {
+        if !Self::size_ok(cells.len()) {
+            return Self::refused(Refusal::Size);
+        }
+        if !Self::crew_ok(count as usize) {
+            return Self::refused(Refusal::Crew);
+        }
+        if !Self::kind_ok(kind) {
+            return Self::refused(Refusal::Kind);
+        }
+        if !is_sound(cells) {
+            return Self::refused(Refusal::Unsound);
+        }
+        let left = Self::allowance(kind, cells);
+        Replied {
+            phase: Self::fresh(kind as u32, cells.len() as u32, count as u32, left, false),
+            reply: Reply::Accepted,
         }
     }
 }

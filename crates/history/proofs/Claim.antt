@@ -1,0 +1,100 @@
+-- What is known of the run that a history shows, said of the history.
+use mathlib.Core.Path.{_≡_, sym, ap, _∙_}
+use mathlib.Core.Logic.{_≢_, _↔_, _⊎_, Iff·trans, ⊎-map}
+use mathlib.Core.Bool.{true}
+use mathlib.Core.List.{List}
+use Prim.Native.Nat.{ℕ, _+_, _≤_, _<_}
+use native.Mathlib.Omega.{arith}
+use lib.Dec.{eqb}
+use lib.ListN.{length, getD, List·getD-eq-default}
+use borrow.Author.Tests.{ne-eqb}
+use Rattle.ring.specs.Counting.{bit, over, count}
+use Rattle.ring.proofs.Counting.{tally-ext, tally-cut, count-sum}
+use Rattle.layout.specs.Layout.{In, layout}
+use Rattle.layout.specs.Sound.{Sound}
+use Rattle.layout.proofs.Theorem as layouts
+use Rattle.rule.specs.Events as events
+use Rattle.rule.specs.Events.{keyOf, Said, Run, Event}
+use Rattle.rule.specs.WellFormed.{activityOk}
+use Rattle.phases.specs.Promise as phases
+use Rattle.phases.specs.Promise.{mostSteps, Always, Inserts, Deletes, Finds, Phases}
+use Rattle.state.specs.Limits.{Limits}
+use Rattle.state.specs.declared.Activity.the-variants.{Idle}
+use Rattle.calls.specs.Calls.{doing}
+use Rattle.calls.specs.WellFormed.{isWellFormed}
+use Rattle.refusals.specs.WellFormed.{Size, Crew, Kind}
+use Rattle.refusals.proofs.Tests.{true-says}
+use Rattle.refusals.proofs.Theorem.{well-formed}
+use Rattle.refusals.proofs.WellFormed.{suits-says}
+use Rattle.history.specs.History.{History}
+use Rattle.history.specs.Promise.{keysAfter, Carried}
+use Rattle.history.proofs.Opening.{by-kinds}
+use Rattle.history.proofs.Pending.{agrees-rest}
+use Rattle.history.proofs.Simulation.{Shows}
+
+-- ---- what is known of a run, by its kind
+pub record Known (k n m : ℕ) (home : ℕ → ℕ) (t : List ℕ) (r : Run) : Type 0 where
+  pub always : Always k n m r
+  pub inserts : k ≡ 1 → Inserts n home t r
+  pub deletes : k ≡ 2 → Deletes n home t r
+  pub finds : k ≡ 3 → Finds m t r
+
+pub known : (k n m : ℕ) (home : ℕ → ℕ) (t : List ℕ) (es : List Event) → Kind k → Phases n m home t es → Known k n m home t (events.after k n m home t es)
+known k n m home t es e p =
+    record {
+      always = by-kinds k e (λ is. rw is (p .insert-always)) (λ is. rw is (p .delete-always)) (λ is. rw is (p .find-always));
+      inserts = λ is. rw is (p .inserts);
+      deletes = λ is. rw is (p .deletes);
+      finds = λ is. rw is (p .finds);
+    }
+
+-- ---- said of a history that shows the run
+module _ (k n m : ℕ) (home : ℕ → ℕ) (t : List ℕ) (s : History) (r : Run) (h : Shows k n m s r) (g : Known k n m home t r) where
+  -- a shut phase has come to rest
+  pub closed : ((x : ℕ) → home x < n) → Sound n home t → Kind k → s .phase .shut ≡ true → s .table ≡ layout n home (keysAfter k (s .ordered) t)
+  closed hb sound e shut = rw (h .table, h .ordered)
+      (by-kinds k e
+      (λ is. rw is (g .inserts is .at-rest (h .rest shut)))
+      (λ is. rw is (g .deletes is .at-rest (h .rest shut)))
+      (λ is. rw is (g .finds is .unchanged ∙ layouts.theorem n home hb .own t sound)))
+
+  past-idle : (w : ℕ) → m ≤ w → getD (r .workers) w Idle ≡ Idle
+  past-idle w l = List·getD-eq-default (r .workers) Idle (omega (arith, h .crew .all))
+
+  pub formed : (L : Limits) → Size L n → Crew L m → Kind k → isWellFormed L (s .phase) ≡ true
+  formed L a b c = well-formed L (s .phase) .1
+      (record {
+        kind = rw (h .kind) c;
+        size = rw (h .cells) a;
+        crew = rw (h .count) b;
+        left = omega (arith, h .few, h .cells);
+        past = λ w l. h .crew .same w ∙ past-idle w (omega (arith, h .count));
+        workers = λ w _. let x = getD (r .workers) w Idle in
+            rw (h .crew .same w, h .kind, h .cells) (suits-says k n x .0 (true-says (activityOk k n x) .1 (g .always .formed w)));
+      })
+
+  pub idle : (w : ℕ) → (getD (s .pending) w 0 ≡ 0) ↔ (doing (s .phase) w ≡ Idle)
+  idle w = rw (h .crew .same w) (agrees-rest k (getD (s .pending) w 0) (getD (r .workers) w Idle) (h .crew .agree w))
+
+  pub bounded : s .counted < mostSteps n m (length (s .ordered))
+  bounded = rw (h .counted, h .ordered) (g .always .bounded)
+
+  carried : (v : ℕ) → Carried s v ↔ phases.Carried r v
+  carried v = (λ (w, is). (w, ap keyOf (sym (h .crew .same w)) ∙ is), λ (w, is). (w, ap keyOf (h .crew .same w) ∙ is))
+
+  pub union : k ≡ 1 → (v : ℕ) → v ≢ 0 → (In v (s .table) ⊎ Carried s v) ↔ (In v t ⊎ In v (s .ordered))
+  union is v nz = rw (h .table, h .ordered)
+      (Iff·trans (⊎-map (λ i. i) (carried v .0), ⊎-map (λ i. i) (carried v .1)) (g .inserts is .union v nz))
+
+  -- in a find phase the keys of unfinished operations are those that the workers look for
+  unfinished : k ≡ 3 → (v : ℕ) → v ≢ 0 → count (λ x. eqb x v) (s .pending) ≡ over (λ _ a. bit (eqb (keyOf a) v)) Idle m (r .workers)
+  unfinished is v nz =
+      count-sum (λ x. eqb x v) (s .pending) 0
+      ∙ tally-cut (λ i. bit (eqb (getD (s .pending) i 0) v)) m (length (s .pending)) (h .crew .places)
+      (λ i l. rw (h .crew .agree i .key is, past-idle i l, ne-eqb 0 v (λ z. nz (sym z))))
+      ∙ tally-ext (λ i. bit (eqb (getD (s .pending) i 0) v)) (λ i. bit (eqb (keyOf (getD (r .workers) i Idle)) v)) m
+      (λ i _. ap (λ x. bit (eqb x v)) (h .crew .agree i .key is))
+
+  pub each : k ≡ 3 → (v : ℕ) → v ≢ 0
+      → count (λ (a : Said). eqb (a .key) v) (s .said) + count (λ x. eqb x v) (s .pending) ≡ count (λ x. eqb x v) (s .ordered)
+  each is v nz = rw (h .said is, h .ordered, unfinished is v nz) (g .finds is .each v nz)

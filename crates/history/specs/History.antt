@@ -1,0 +1,94 @@
+-- Lists of calls on one phase: each call gets the phase state that the last one returned, each turn also the table as the last turn left it.
+-- The calls are the very definitions that the functions' contracts name.
+use mathlib.Core.Bool.{Bool, true, false, cond}
+use mathlib.Core.List.{List, [], _∷_, _++_}
+use Prim.Native.Nat.{ℕ, _+_}
+use lib.Dec.{ltb}
+use lib.ListN.{getD, set, replicate}
+use Rattle.ring.specs.Counting.{bit}
+use Rattle.rule.specs.declared.Answer.{Answer}
+use Rattle.rule.specs.declared.Answer.the-variants.{WentOn, Finished, Yes, No}
+use Rattle.rule.specs.declared.Answer.the-variants as answer
+use Rattle.rule.specs.Events.{Said, tells}
+use Rattle.state.specs.Limits.{Limits}
+use Rattle.state.specs.Open.{openCall}
+use Rattle.state.specs.declared.Phase.{Phase}
+use Rattle.state.specs.declared.Reply.{Reply}
+use Rattle.state.specs.declared.Reply.the-variants.{Accepted, Refused}
+use Rattle.calls.specs.declared.TurnReply.{TurnReply}
+use Rattle.calls.specs.declared.TurnReply.the-variants as turnReply
+use Rattle.calls.specs.Calls.{closeCall, orderCall, turnCall, turnTable}
+
+pub data Call : Type 0 where
+  order : (w v : ℕ) → Call
+  turn : (w : ℕ) → Call
+  close : Call
+
+-- the table and the phase state, and what is counted beside them
+pub record History : Type 0 where
+  pub table : List ℕ
+  pub phase : Phase
+  -- the keys of the accepted orders, the last one first
+  pub ordered : List ℕ
+  -- for each worker the key of its unfinished order, 0 if it has none: from the accepted order until a turn answers finished
+  pub pending : List ℕ
+  -- the answers of finished finds with the keys ordered, the last one first
+  pub said : List Said
+  -- the turns not refused whose worker has an unfinished order
+  pub counted : ℕ
+
+-- finished, with yes or no in a find phase
+abbrev pub isFinish : Answer → Bool
+isFinish WentOn = false
+isFinish Finished = true
+isFinish Yes = true
+isFinish No = true
+isFinish answer.Idle = false
+
+-- ---- what a call's answer adds
+abbrev pub afterOrder : ℕ → ℕ → Phase → Reply → History → History
+afterOrder w v p Accepted s = record {
+  table = s .table;
+  phase = p;
+  ordered = v ∷ s .ordered;
+  pending = set (s .pending) w v;
+  said = s .said;
+  counted = s .counted;
+}
+afterOrder w v p (Refused r) s = record { table = s .table; phase = p; ordered = s .ordered; pending = s .pending; said = s .said; counted = s .counted }
+
+abbrev pub afterTurn : ℕ → List ℕ → Phase → TurnReply → History → History
+afterTurn w t p (turnReply.Answered a) s = record {
+  table = t;
+  phase = p;
+  ordered = s .ordered;
+  pending = cond (isFinish a) (set (s .pending) w 0) (s .pending);
+  said = tells (getD (s .pending) w 0) a ++ s .said;
+  counted = bit (ltb 0 (getD (s .pending) w 0)) + s .counted;
+}
+afterTurn w t p (turnReply.Refused r) s = record { table = t; phase = p; ordered = s .ordered; pending = s .pending; said = s .said; counted = s .counted }
+
+module _ (L : Limits) (home : ℕ → ℕ → ℕ) where
+  unfoldable pub call : Call → History → History
+  call (order w v) s = let r = orderCall L (s .phase) home w v in afterOrder w v (r .phase) (r .reply) s
+  call (turn w) s = let r = turnCall L (s .phase) (s .table) w home in afterTurn w (turnTable L (s .phase) (s .table) w home) (r .phase) (r .reply) s
+  call close s = record { table = s .table; phase = closeCall L (s .phase) .phase; ordered = s .ordered; pending = s .pending; said = s .said; counted = s .counted }
+
+  -- a list of calls, the first one first
+  unfoldable pub run : List Call → History → History
+  run [] s = s
+  run (c ∷ cs) s = run cs (call c s)
+
+  -- from an opening of kind k with m workers on the table t
+  abbrev pub opening : ℕ → ℕ → List ℕ → History
+  opening k m t = record {
+    table = t;
+    phase = openCall L home k m t .phase;
+    ordered = [];
+    pending = replicate (L .mostWorkers) 0;
+    said = [];
+    counted = 0;
+  }
+
+  abbrev pub after : ℕ → ℕ → List ℕ → List Call → History
+  after k m t cs = run cs (opening k m t)

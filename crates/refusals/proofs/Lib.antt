@@ -1,0 +1,5 @@
+pub mod Calls
+pub mod Chain
+pub mod Tests
+pub mod Theorem
+pub mod WellFormed
