@@ -1,0 +1,26 @@
+use mathlib.Core.Path.{_∙_, ap}
+use Rattle.state.specs.Refusals.{replyNumber}
+use borrow.Author.Needs.{needs}
+use Rattle.exports.proofs.vulzegan_run_calls.Statement.{statement}
+use Rattle.exports.proofs.vulzegan_run_calls.Tie as tie
+
+run-calls-requires : tie.Need-run-calls-requires
+run-calls-requires c κs = search needs
+
+reply-number-requires : tie.Need-reply-number-requires
+reply-number-requires c κs = search needs
+
+same-length : tie.Need-same-length
+same-length c = search needs
+
+same-length-2 : tie.Need-same-length-2
+same-length-2 c = search needs
+
+returns : tie.Need-returns
+returns c =
+    let ran = c .before .before .before .before .before .run-calls .ensures in
+    (record { reply = c .reply-number .ensures ∙ ap replyNumber (ran .0 .reply); table = ran .0 .gives .table; answers = ran .0 .gives .answers }, ran .1)
+
+pub vulzegan-run-calls-spec : {M : Type 1} → statement M
+vulzegan-run-calls-spec =
+    tie.close (tie.spec run-calls-requires reply-number-requires same-length same-length-2 returns)

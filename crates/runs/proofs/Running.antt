@@ -1,0 +1,69 @@
+-- One call more at the end of a list of calls.
+use mathlib.Core.Path.{_≡_, refl, sym, ap, _∙_}
+use mathlib.Core.List.{List, [], _∷_, _++_, append-assoc}
+use Prim.Native.Nat.{ℕ, zero, suc, _+_, _<_}
+use native.Mathlib.Numerals.{add-one}
+use lib.ListN.{length, getD, set, drop, length-append}
+use lib.Seq.{drop-cons, set-at}
+use Rattle.state.specs.Limits.{Limits}
+use Rattle.state.specs.declared.Phase.{Phase}
+use Rattle.history.specs.History.{Call, History, call, run}
+use Rattle.runs.specs.Runs.{callOf, callsOf, answerOf, answersOf, Applies, RunsFrom}
+use Rattle.runs.specs.declared.Applied.{Applied}
+
+length-calls : (ops workers keys : List ℕ) (i : ℕ) → length (callsOf ops workers keys i) ≡ i
+unfolding callsOf
+length-calls ops workers keys zero = refl
+length-calls ops workers keys (suc i) = length-append (callsOf ops workers keys i) _ ∙ add-one _ ∙ ap suc (length-calls ops workers keys i)
+
+module _ (L : Limits) (home : ℕ → ℕ → ℕ) where
+  run-last : (cs : List Call) (c : Call) (s : History) → run L home (cs ++ (c ∷ [])) s ≡ call L home c (run L home cs s)
+  unfolding run
+  run-last [] c s = refl
+  run-last (d ∷ cs) c s = run-last cs c (call L home d s)
+
+  answers-last : (cs : List Call) (c : Call) (s : History)
+      → answersOf L home (cs ++ (c ∷ [])) s ≡ answersOf L home cs s ++ (answerOf L home c (run L home cs s) ∷ [])
+  unfolding run answersOf
+  answers-last [] c s = refl
+  answers-last (d ∷ cs) c s = ap (λ (x : List ℕ). answerOf L home d s ∷ x) (answers-last cs c (call L home d s))
+
+  length-answers : (cs : List Call) (s : History) → length (answersOf L home cs s) ≡ length cs
+  unfolding answersOf
+  length-answers [] s = refl
+  length-answers (c ∷ cs) s = ap suc (length-answers cs (call L home c s))
+
+  -- the last answer goes to the first place behind the others
+  place : (cs : List Call) (c : Call) (s : History) (out out′ : List ℕ) (i a : ℕ) → length cs ≡ i → i < length out
+      → out′ ≡ answersOf L home cs s ++ drop (length cs) out → a ≡ answerOf L home c (run L home cs s)
+      → set out′ i a ≡ answersOf L home (cs ++ (c ∷ [])) s ++ drop (length (cs ++ (c ∷ []))) out
+  place cs c s out out′ i a at below so-far is =
+      let before = answersOf L home cs s in
+      let e : out′ ≡ before ++ (getD out i 0 ∷ drop (suc i) out) = so-far ∙ rw (at, drop-cons out i 0) in
+      let n : length (cs ++ (c ∷ [])) ≡ suc i = length-append cs (c ∷ []) ∙ add-one _ ∙ ap suc at in
+      ap (λ (x : List ℕ). set x i a) e
+      ∙ set-at before (getD out i 0) (drop (suc i) out) a i (length-answers cs s ∙ at)
+      ∙ rw (n, answers-last, append-assoc, is)
+
+  -- ---- the first calls of lists of numbers: none, and one more
+  module _ (ops workers keys : List ℕ) where
+    pub none-run : (p : Phase) (t out : List ℕ) → RunsFrom L home p t (callsOf ops workers keys 0) out p t out
+    unfolding callsOf run answersOf
+    none-run p t out s same-phase same-table = record { phase = sym same-phase; table = sym same-table; answers = refl }
+
+    pub one-more-run : (i : ℕ) (p₀ : Phase) (t₀ out₀ : List ℕ) (p : Phase) (t out : List ℕ) (r : Applied) (t′ : List ℕ) → i < length out₀
+        → RunsFrom L home p₀ t₀ (callsOf ops workers keys i) out₀ p t out
+        → Applies L home p t (callOf (getD ops i 0) (getD workers i 0) (getD keys i 0)) r t′
+        → RunsFrom L home p₀ t₀ (callsOf ops workers keys (i + 1)) out₀ (r .phase) t′ (set out i (r .answer))
+    unfolding callsOf
+    one-more-run i p₀ t₀ out₀ p t out r t′ below so-far applies s same-phase same-table =
+        let cs = callsOf ops workers keys i in
+        let c = callOf (getD ops i 0) (getD workers i 0) (getD keys i 0) in
+        let h = so-far s same-phase same-table in
+        let a = applies (run L home cs s) (sym (h .phase)) (sym (h .table)) in
+        rw (add-one i)
+        record {
+          phase = a .phase ∙ ap (λ (x : History). x .phase) (sym (run-last cs c s));
+          table = a .table ∙ ap (λ (x : History). x .table) (sym (run-last cs c s));
+          answers = place cs c s out₀ out i (r .answer) (length-calls ops workers keys i) below (h .answers) (a .answer);
+        }

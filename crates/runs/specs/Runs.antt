@@ -1,0 +1,99 @@
+-- Lists of calls given as numbers, and the numbers of their answers.
+use mathlib.Core.Path.{_≡_}
+use mathlib.Core.Bool.{cond}
+use mathlib.Core.List.{List, [], _∷_, _++_}
+use Prim.Native.Nat.{ℕ, zero, suc, min}
+use lib.Dec.{eqb}
+use lib.ListN.{length, getD, drop}
+use Rattle.rule.specs.declared.Answer.{Answer}
+use Rattle.rule.specs.declared.Answer.the-variants.{WentOn, Finished, Yes, No}
+use Rattle.rule.specs.declared.Answer.the-variants as answer
+use Rattle.state.specs.Limits.{Limits}
+use Rattle.state.specs.Open.{openReply}
+use Rattle.state.specs.Refusals.{numberOf, replyNumber}
+use Rattle.state.specs.declared.Phase.{Phase}
+use Rattle.state.specs.declared.Replied.{Replied}
+use Rattle.state.specs.declared.Reply.{Reply}
+use Rattle.state.specs.declared.Reply.the-variants.{Accepted, Refused}
+use Rattle.calls.specs.Calls.{closeCall, orderCall, turnCall}
+use Rattle.calls.specs.declared.TurnReply.{TurnReply}
+use Rattle.calls.specs.declared.TurnReply.the-variants as turnReply
+use Rattle.history.specs.History.{Call, order, turn, close, History, call, run, opening}
+use Rattle.runs.specs.declared.Applied.{Applied}
+
+-- ---- calls as numbers
+-- 1 is an order of key v for worker w, 2 a turn of worker w, and any other number a close
+abbrev pub callOf : (op w v : ℕ) → Call
+callOf op w v = cond (eqb op 1) (order w v) (cond (eqb op 2) (turn w) close)
+
+-- the first i calls, in order
+unfoldable pub callsOf : (ops workers keys : List ℕ) → ℕ → List Call
+callsOf ops workers keys zero = []
+callsOf ops workers keys (suc i) = callsOf ops workers keys i ++ (callOf (getD ops i 0) (getD workers i 0) (getD keys i 0) ∷ [])
+
+-- as many as the shortest of the four lists has, the last of which is lent for the answers
+abbrev pub fewest : (ops workers keys out : List ℕ) → ℕ
+fewest ops workers keys out = min (min (length ops) (length workers)) (min (length keys) (length out))
+
+abbrev pub callsLent : (ops workers keys out : List ℕ) → List Call
+callsLent ops workers keys out = callsOf ops workers keys (fewest ops workers keys out)
+
+-- ---- answers as numbers
+-- of a turn that is not refused
+abbrev pub answerNumber : Answer → ℕ
+answerNumber WentOn = 20
+answerNumber Finished = 21
+answerNumber Yes = 22
+answerNumber No = 23
+answerNumber answer.Idle = 24
+
+-- of any turn: a refused one has the number of its refusal
+abbrev pub turnAnswer : TurnReply → ℕ
+turnAnswer (turnReply.Answered a) = answerNumber a
+turnAnswer (turnReply.Refused r) = numberOf r
+
+module _ (L : Limits) (home : ℕ → ℕ → ℕ) where
+  -- of any call: an order or a close has 0 if it is accepted
+  unfoldable pub answerOf : Call → History → ℕ
+  answerOf (order w v) s = replyNumber (orderCall L (s .phase) home w v .reply)
+  answerOf (turn w) s = turnAnswer (turnCall L (s .phase) (s .table) w home .reply)
+  answerOf close s = replyNumber (closeCall L (s .phase) .reply)
+
+  -- of each call of a list, the first one first
+  unfoldable pub answersOf : List Call → History → List ℕ
+  answersOf [] s = []
+  answersOf (c ∷ cs) s = answerOf c s ∷ answersOf cs (call L home c s)
+
+  -- ---- what code gives, by the definitions of a history
+  -- of one call: the phase and the number of the answer, and the table
+  pub record CallGives (c : Call) (s : History) (r : Applied) (t : List ℕ) : Type 0 where
+    pub phase : r .phase ≡ call L home c s .phase
+    pub answer : r .answer ≡ answerOf c s
+    pub table : t ≡ call L home c s .table
+
+  -- of a list of calls: the phase, the table, and the list lent for the answers, in which the places behind them keep their contents
+  pub record RunGives (cs : List Call) (s : History) (out : List ℕ) (p : Phase) (t out′ : List ℕ) : Type 0 where
+    pub phase : p ≡ run L home cs s .phase
+    pub table : t ≡ run L home cs s .table
+    pub answers : out′ ≡ answersOf cs s ++ drop (length cs) out
+
+  -- the same from a phase p and a table t on, whatever else a history has
+  abbrev pub Applies : Phase → List ℕ → Call → Applied → List ℕ → Type 0
+  Applies p t c r t′ = (s : History) → s .phase ≡ p → s .table ≡ t → CallGives c s r t′
+
+  abbrev pub RunsFrom : Phase → List ℕ → List Call → List ℕ → Phase → List ℕ → List ℕ → Type 0
+  RunsFrom p t cs out p′ t′ out′ = (s : History) → s .phase ≡ p → s .table ≡ t → RunGives cs s out p′ t′ out′
+
+  -- of an opening and the calls after it
+  module _ (k m : ℕ) (t ops workers keys out : List ℕ) where
+    -- none if the opening is refused
+    abbrev pub ifAccepted : Reply → List Call
+    ifAccepted Accepted = callsLent ops workers keys out
+    ifAccepted (Refused r) = []
+
+    abbrev pub dealt : List Call
+    dealt = ifAccepted (openReply L home k m t)
+
+    pub record Ran (r : Replied) (t′ out′ : List ℕ) : Type 0 where
+      pub reply : r .reply ≡ openReply L home k m t
+      pub gives : RunGives dealt (opening L home k m t) out (r .phase) t′ out′
