@@ -17,7 +17,7 @@ ghost use lib.Dec.{eqb};
 ghost use Rattle.layout.specs.Home.{modulo};
 ghost use Rattle.rule.specs.WellFormed.{activityOk};
 ghost use Rattle.state.specs.Limits.{gateway};
-ghost use Rattle.calls.specs.WellFormed.{isIdle, workersOk, isWellFormed};
+ghost use Rattle.calls.specs.WellFormed.{isIdle, isWellFormed};
 ghost use Rattle.calls.specs.Calls.{allIdle, closeCall, orderCall, turnCall, turnTable};
 ghost use Rattle.calls.specs.Split.{numbersOk, oneTurn, oneTable};
 
@@ -98,7 +98,8 @@ pub fn is_well_formed(phase: Phase) -> bool
     true
 }
 
-// A phase as it is, with a refusal.
+// ---- close
+// The phase as it is, with a refusal.
 fn refused(phase: Phase, why: Refusal) -> Replied
     ensures { λ r. ⌜ r ≡ record { phase = phase; reply = Reply.Refused why } ⌝ }
 {
@@ -108,8 +109,7 @@ fn refused(phase: Phase, why: Refusal) -> Replied
     }
 }
 
-// ---- close
-fn all_idle(workers: [Worker; Phase::MOST_WORKERS]) -> bool
+pub fn all_idle(workers: [Worker; Phase::MOST_WORKERS]) -> bool
     ensures { λ r. ⌜ r ≡ allIdle workers ⌝ }
 {
     let mut i: usize = 0;
@@ -229,6 +229,7 @@ pub fn one_turn(kind: u32, length: u32, cells: &mut [u32], worker: Worker) -> Mo
     }
 }
 
+// The phase as it is, with a refusal.
 fn turn_refused(phase: Phase, why: Refusal) -> Turned
     ensures { λ r. ⌜ r ≡ record { phase = phase; reply = TurnReply.Refused why } ⌝ }
 {

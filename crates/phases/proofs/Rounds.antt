@@ -67,11 +67,11 @@ module _ (k n : ℕ) (home : ℕ → ℕ) where
   idle-step w s is = either (λ r. r ≡ s) (ltb w (length (s .workers))) (rw is) refl
 
   -- ---- a round up to worker w: each worker finds its activity as it was before the round
-  dealt : ℕ → Run → Run
+  unfoldable pub dealt : ℕ → Run → Run
   dealt zero s = s
   dealt (suc w) s = event k n home (step w) (dealt w s)
 
-  round-dealt : (w : ℕ) (es : List Event) (s : Run) → run k n home (round w es) s ≡ run k n home es (dealt w s)
+  pub round-dealt : (w : ℕ) (es : List Event) (s : Run) → run k n home (round w es) s ≡ run k n home es (dealt w s)
   unfolding round run dealt
   round-dealt zero es s = refl
   round-dealt (suc w) es s = round-dealt w (step w ∷ es) s

@@ -59,11 +59,12 @@ refused-requires-4 c κs = search needs
 
 returns-4 : tie.Need-returns-4
 returns-4 c =
-    let a = c .before .before .before .before .before .before .before .before .args in
+    let b = c .before .before .before .before .before in
+    let a = b .before .before .before .args in
     order-refused gateway (a .t1) modulo (a .worker) (a .key) _ Busy (c .refused4 .ensures)
     (simp (
-      sym (c .before .before .before .before .before .before .before .is-well-formed .ensures) ∙ not-false _ (c .before .before .before .before .before .before .if1 .left),
-      c .before .before .before .before .before .if2 .left,
+      sym (b .before .before .is-well-formed .ensures) ∙ not-false _ (b .before .if1 .left),
+      b .if2 .left,
       lt-leb _ _ (c .before .before .before .before .if3 .left),
       sym (c .before .before .is-idle .ensures) ∙ not-true _ (c .before .if4 .taken),
     ))
@@ -73,12 +74,13 @@ refused-requires-5 c κs = search needs
 
 returns-5 : tie.Need-returns-5
 returns-5 c =
-    let a = c .before .before .before .before .before .before .before .before .before .args in
+    let b = c .before .before .before .before .before in
+    let a = b .before .before .before .before .args in
     order-refused gateway (a .t1) modulo (a .worker) (a .key) _ Blank (c .refused5 .ensures)
     (simp (
-      sym (c .before .before .before .before .before .before .before .before .is-well-formed .ensures) ∙ not-false _ (c .before .before .before .before .before .before .before .if1 .left),
-      c .before .before .before .before .before .before .if2 .left,
-      lt-leb _ _ (c .before .before .before .before .before .if3 .left),
+      sym (b .before .before .before .is-well-formed .ensures) ∙ not-false _ (b .before .before .if1 .left),
+      b .before .if2 .left,
+      lt-leb _ _ (b .if3 .left),
       sym (c .before .before .before .is-idle .ensures) ∙ not-false _ (c .before .before .if4 .left),
       eq-eqb _ _ (c .before .if5 .taken),
     ))
@@ -91,17 +93,19 @@ refused-requires-6 c κs = search needs
 
 returns-6 : tie.Need-returns-6
 returns-6 c =
-    let a = c .before .before .before .before .before .before .before .before .before .before .before .args in
+    let b = c .before .before .before .before .before in let d = b .before .before .before .before .before in
+    let a = d .before .args in
     order-refused gateway (a .t1) modulo (a .worker) (a .key) _ Full (c .refused6 .ensures)
-    (order-full gateway (a .t1) modulo (a .worker) (a .key) (sym (c .before .before .before .before .before .before .before .before .before .before .is-well-formed .ensures) ∙ not-false _ (c .before .before .before .before .before .before .before .before .before .if1 .left))
-    (c .before .before .before .before .before .before .before .before .if2 .left) (c .before .before .before .before .before .before .before .if3 .left)
-    (sym (c .before .before .before .before .before .is-idle .ensures) ∙ not-false _ (c .before .before .before .before .if4 .left))
+    (order-full gateway (a .t1) modulo (a .worker) (a .key) (sym (d .is-well-formed .ensures) ∙ not-false _ (b .before .before .before .before .if1 .left))
+    (b .before .before .before .if2 .left) (b .before .before .if3 .left)
+    (sym (b .is-idle .ensures) ∙ not-false _ (c .before .before .before .before .if4 .left))
     (c .before .before .before .if5 .left) _ (c .before .before .is-full .ensures) (c .before .if6 .taken))
 
 rem-cell : tie.Need-rem-cell
 rem-cell c =
-    let a = c .before .before .before .before .before .before .before .before .before .before .args in
-    let w = well-formed gateway (a .t1) (sym (c .before .before .before .before .before .before .before .before .before .is-well-formed .ensures) ∙ not-false _ (c .before .before .before .before .before .before .before .before .if1 .left)) in omega arith
+    let b = c .before .before .before .before .before in let d = b .before .before .before .before .before in
+    let a = d .args in
+    let w = well-formed gateway (a .t1) (sym (b .before .before .before .before .is-well-formed .ensures) ∙ not-false _ (b .before .before .before .if1 .left)) in omega arith
 
 left-after-requires : tie.Need-left-after-requires
 left-after-requires c κs = search needs
@@ -111,15 +115,17 @@ mul-t16 c = search needs
 
 element-set-from-phase : tie.Need-element-set-from-phase
 element-set-from-phase c =
-    let a = c .before .before .before .before .before .before .before .before .before .before .before .args in
-    let w = well-formed gateway (a .t1) (sym (c .before .before .before .before .before .before .before .before .before .before .is-well-formed .ensures) ∙ not-false _ (c .before .before .before .before .before .before .before .before .before .if1 .left)) in omega arith
+    let b = c .before .before .before .before .before in let d = b .before .before .before .before .before in
+    let a = d .before .args in
+    let w = well-formed gateway (a .t1) (sym (d .is-well-formed .ensures) ∙ not-false _ (b .before .before .before .before .if1 .left)) in omega arith
 
 returns-7 : tie.Need-returns-7
 returns-7 c =
-    let a = c .before .before .before .before .before .before .before .before .before .before .before .args in
-    order-accepted gateway (a .t1) modulo (a .worker) (a .key) (sym (c .before .before .before .before .before .before .before .before .before .before .is-well-formed .ensures) ∙ not-false _ (c .before .before .before .before .before .before .before .before .before .if1 .left))
-    (c .before .before .before .before .before .before .before .before .if2 .left) (c .before .before .before .before .before .before .before .if3 .left)
-    (sym (c .before .before .before .before .before .is-idle .ensures) ∙ not-false _ (c .before .before .before .before .if4 .left))
+    let b = c .before .before .before .before .before in let d = b .before .before .before .before .before in
+    let a = d .before .args in
+    order-accepted gateway (a .t1) modulo (a .worker) (a .key) (sym (d .is-well-formed .ensures) ∙ not-false _ (b .before .before .before .before .if1 .left))
+    (b .before .before .before .if2 .left) (b .before .before .if3 .left)
+    (sym (b .is-idle .ensures) ∙ not-false _ (c .before .before .before .before .if4 .left))
     (c .before .before .before .if5 .left) _ (c .before .before .is-full .ensures) (c .before .if6 .left) _ (c .left-after .ensures)
 
 pub order-spec : {M : Type 1} → statement M

@@ -53,9 +53,10 @@ turn-refused-requires-2 c κs = search needs
 
 returns-2 : tie.Need-returns-2 Inv-loop μ-loop
 returns-2 c =
-    let a = c .before .before .before .before .before .before .before .before .before .args in
+    let b = c .before .before .before .before .before in
+    let a = b .before .before .before .before .args in
     turn-refused gateway (a .t1) (a .cells .now) (a .worker) modulo _ Spoilt (c .turn-refused2 .ensures)
-    (simp (fails gateway (a .t1) _ (c .before .before .before .before .before .loop .inv) (c .before .before .before .before .loop-test .taken) _ (c .before .before .worker-ok .ensures) (not-true _ (c .before .if2 .taken))))
+    (simp (fails gateway (a .t1) _ (b .loop .inv) (c .before .before .before .before .loop-test .taken) _ (c .before .before .worker-ok .ensures) (not-true _ (c .before .if2 .taken))))
 
 add-i : tie.Need-add-i Inv-loop μ-loop
 add-i c = omega arith
@@ -120,18 +121,20 @@ mul-next c = search needs
 
 element-set-from-next : tie.Need-element-set-from-next Inv-loop μ-loop
 element-set-from-next c =
-    let a = c .before .before .before .before .before .before .before .before .before .before .before .before .before .before .args in
-    let w = well-formed gateway (a .t1) (passed-all _ _ _ (c .before .before .before .before .before .before .before .before .before .before .loop .inv) (c .before .before .before .before .before .before .before .before .before .loop-test .left)) in omega arith
+    let b = c .before .before .before .before .before in let d = b .before .before .before .before .before in
+    let a = d .before .before .before .before .args in
+    let w = well-formed gateway (a .t1) (passed-all _ _ _ (d .loop .inv) (b .before .before .before .before .loop-test .left)) in omega arith
 
 same-length : tie.Need-same-length Inv-loop μ-loop
 same-length c = search needs
 
 returns-6 : tie.Need-returns-6 Inv-loop μ-loop
 returns-6 c =
-    let a = c .before .before .before .before .before .before .before .before .before .before .before .before .before .before .args in
+    let b = c .before .before .before .before .before in let d = b .before .before .before .before .before in
+    let a = d .before .before .before .before .args in
     let one = turn-by-one gateway (a .t1) (a .cells .now) (a .worker) modulo
-    (passed-all _ _ _ (c .before .before .before .before .before .before .before .before .before .before .loop .inv) (c .before .before .before .before .before .before .before .before .before .loop-test .left))
-    (c .before .before .before .before .before .before .before .before .if3 .left) (c .before .before .before .before .before .before .before .if4 .left) (c .before .before .before .before .before .before .if5 .left) in (
+    (passed-all _ _ _ (d .loop .inv) (b .before .before .before .before .loop-test .left))
+    (b .before .before .before .if3 .left) (b .before .before .if4 .left) (b .before .if5 .left) in (
       ap (with-moved (a .t1) (a .worker)) (c .before .before .before .one-turn .ensures .0) ∙ one .0,
       c .before .before .before .one-turn .ensures .1 ∙ one .1,
     )

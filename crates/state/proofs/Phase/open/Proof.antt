@@ -72,28 +72,37 @@ returns-4 c =
     ))
 
 allowance-requires : tie.Need-allowance-requires
-allowance-requires c κs = within 2 8192 _ (sym (c .before .before .before .before .before .before .before .size-ok .ensures) ∙ not-false _ (c .before .before .before .before .before .before .if1 .left)) .1
+allowance-requires c κs =
+    let b = c .before .before .before .before .before in
+    within _ _ _ (sym (b .before .before .size-ok .ensures) ∙ not-false _ (b .before .if1 .left)) .1
 
 cast-fresh : tie.Need-cast-fresh
-cast-fresh c = let h = within 1 3 (c .before .before .before .before .before .before .before .before .before .before .args .kind) (sym (c .before .before .before .before .kind-ok .ensures) ∙ not-false _ (c .before .before .before .if3 .left)) in omega arith
+cast-fresh c =
+    let b = c .before .before .before .before .before in let d = b .before .before .before .before .before in
+    let h = within _ _ (d .args .kind) (sym (c .before .before .before .before .kind-ok .ensures) ∙ not-false _ (c .before .before .before .if3 .left)) in omega arith
 
 cast-fresh-2 : tie.Need-cast-fresh-2
-cast-fresh-2 c = let h = within 2 8192 (length (c .before .before .before .before .before .before .before .before .before .before .args .cells .now)) (sym (c .before .before .before .before .before .before .before .before .size-ok .ensures) ∙ not-false _ (c .before .before .before .before .before .before .before .if1 .left)) in omega arith
+cast-fresh-2 c =
+    let b = c .before .before .before .before .before in let d = b .before .before .before .before .before in
+    let h = within _ _ (length (d .args .cells .now)) (sym (b .before .before .before .size-ok .ensures) ∙ not-false _ (b .before .before .if1 .left)) in omega arith
 
 cast-fresh-3 : tie.Need-cast-fresh-3
-cast-fresh-3 c = let h = within 1 16 (c .before .before .before .before .before .before .before .before .before .before .args .count) (sym (c .before .before .before .before .before .before .crew-ok .ensures) ∙ not-false _ (c .before .before .before .before .before .if2 .left)) in omega arith
+cast-fresh-3 c =
+    let b = c .before .before .before .before .before in let d = b .before .before .before .before .before in
+    let h = within _ _ (d .args .count) (sym (b .before .crew-ok .ensures) ∙ not-false _ (b .if2 .left)) in omega arith
 
 fresh-requires : tie.Need-fresh-requires
 fresh-requires c κs = search needs
 
 returns-5 : tie.Need-returns-5
 returns-5 c =
-    let a = c .before .before .before .before .before .before .before .before .before .before .before .args in
+    let b = c .before .before .before .before .before in let d = b .before .before .before .before .before in
+    let a = d .before .args in
     open-accepted gateway modulo (a .kind) (a .count) (a .cells .now) _ _ (c .before .allowance .ensures) (c .fresh .ensures)
     (simp (
-      sym (c .before .before .before .before .before .before .before .before .before .size-ok .ensures) ∙ not-false _ (c .before .before .before .before .before .before .before .before .if1 .left),
-      sym (c .before .before .before .before .before .before .before .crew-ok .ensures) ∙ not-false _ (c .before .before .before .before .before .before .if2 .left),
-      sym (c .before .before .before .before .before .kind-ok .ensures) ∙ not-false _ (c .before .before .before .before .if3 .left),
+      sym (b .before .before .before .before .size-ok .ensures) ∙ not-false _ (b .before .before .before .if1 .left),
+      sym (b .before .before .crew-ok .ensures) ∙ not-false _ (b .before .if2 .left),
+      sym (b .kind-ok .ensures) ∙ not-false _ (c .before .before .before .before .if3 .left),
       sym (c .before .before .before .is-sound .ensures) ∙ not-false _ (c .before .before .if4 .left),
     ))
 
