@@ -1,0 +1,162 @@
+// What an output line says behind its number, written into a lent buffer.
+use calls::TurnReply;
+use rounds::Finish;
+use rule::Answer;
+use state::Phase;
+use state::Refusal;
+use state::Reply;
+ghost use mathlib.Core.List.{[], _∷_, _++_};
+ghost use Prim.Native.Nat.{_+_, _*_, _≤_};
+ghost use lib.ListN.{length, take};
+ghost use Rattle.lines.specs.Digits.{digitsOf};
+ghost use Rattle.listing.specs.Words.{keysOf};
+ghost use Rattle.printing.specs.Fields.{Printed, PrintedWithin, field, answerWord, refusalFields, replyFields, turnFields, finishWord, finishFields, numberFields, toldFields};
+
+// What a line tells: the answer of a call; that workers ran; how many keys are listed; that the line is bad.
+pub enum Told {
+    Replied(Reply),
+    Turned(TurnReply),
+    Ran,
+    Listed(usize),
+    Bad,
+}
+
+fn put_refusal(out: &mut [u8], at: usize, why: Refusal) -> usize
+    requires { ⌜ at + 11 ≤ length (now out) ⌝ }
+    ensures { λ r. ⌜ Printed (refusalFields why) (now (out .entry)) at (now (out .exit)) r ⌝ }
+{
+    let behind = lines::put_bytes(out, at, b"\trefused\t");
+    lines::put_number(out, behind, why.number() as u64)
+}
+
+fn put_reply(out: &mut [u8], at: usize, reply: Reply) -> usize
+    requires { ⌜ at + 11 ≤ length (now out) ⌝ }
+    ensures { λ r. ⌜ Printed (replyFields reply) (now (out .entry)) at (now (out .exit)) r ⌝ }
+{
+    match reply {
+        Reply::Accepted => lines::put_bytes(out, at, b"\tok"),
+        Reply::Refused(why) => put_refusal(out, at, why),
+    }
+}
+
+fn put_answer(out: &mut [u8], at: usize, answer: Answer) -> usize
+    requires { ⌜ at + 5 ≤ length (now out) ⌝ }
+    ensures { λ r. ⌜ Printed (field (answerWord answer)) (now (out .entry)) at (now (out .exit)) r ⌝ }
+{
+    match answer {
+        Answer::WentOn => lines::put_bytes(out, at, b"\ton"),
+        Answer::Finished => lines::put_bytes(out, at, b"\tdone"),
+        Answer::Yes => lines::put_bytes(out, at, b"\tyes"),
+        Answer::No => lines::put_bytes(out, at, b"\tno"),
+        Answer::Idle => lines::put_bytes(out, at, b"\tidle"),
+    }
+}
+
+fn put_turn(out: &mut [u8], at: usize, reply: TurnReply) -> usize
+    requires { ⌜ at + 11 ≤ length (now out) ⌝ }
+    ensures { λ r. ⌜ Printed (turnFields reply) (now (out .entry)) at (now (out .exit)) r ⌝ }
+{
+    match reply {
+        TurnReply::Answered(answer) => put_answer(out, at, answer),
+        TurnReply::Refused(why) => put_refusal(out, at, why),
+    }
+}
+
+fn put_finish(out: &mut [u8], at: usize, answer: Answer) -> usize
+    requires { ⌜ at + 5 ≤ length (now out) ⌝ }
+    ensures { λ r. ⌜ Printed (field (finishWord answer)) (now (out .entry)) at (now (out .exit)) r ⌝ }
+{
+    match answer {
+        Answer::WentOn => lines::put_bytes(out, at, b"\t-"),
+        Answer::Finished => put_answer(out, at, Answer::Finished),
+        Answer::Yes => put_answer(out, at, Answer::Yes),
+        Answer::No => put_answer(out, at, Answer::No),
+        Answer::Idle => put_answer(out, at, Answer::Idle),
+    }
+}
+
+// The fields of the first `count` workers.
+fn put_finishes(
+    out: &mut [u8],
+    at: usize,
+    finishes: [Finish; Phase::MOST_WORKERS],
+    count: usize,
+) -> usize
+    requires { ⌜ at + 80 ≤ length (now out) ⌝ }
+    ensures { λ r. ⌜ PrintedWithin 80 (finishFields (take count finishes)) (now (out .entry)) at (now (out .exit)) r ⌝ }
+{
+    let mut place = at;
+    let mut w: usize = 0;
+    while w < Phase::MOST_WORKERS {
+        if count <= w {
+            return place;
+        }
+        let finish = finishes[w];
+        let answer = finish.answer;
+        place = put_finish(out, place, answer);
+        w += 1;
+    }
+    place
+}
+
+fn put_field(out: &mut [u8], at: usize, number: u64) -> usize
+    requires { ⌜ at + length (field (digitsOf number)) ≤ length (now out) ⌝ }
+    ensures { λ r. ⌜ Printed (field (digitsOf number)) (now (out .entry)) at (now (out .exit)) r ⌝ }
+{
+    let behind = lines::put_bytes(out, at, b"\t");
+    lines::put_number(out, behind, number)
+}
+
+// The key of a cell, if it holds one.
+fn put_key(out: &mut [u8], at: usize, key: u32) -> usize
+    requires { ⌜ at + 11 ≤ length (now out) ⌝ }
+    ensures { λ r. ⌜ Printed (numberFields (keysOf (key ∷ []))) (now (out .entry)) at (now (out .exit)) r ⌝ }
+{
+    if key == 0 {
+        return at;
+    }
+    put_field(out, at, key as u64)
+}
+
+// The keys of a table in cell order.
+fn put_keys(out: &mut [u8], at: usize, cells: &[u32]) -> usize
+    requires { ⌜ at + 11 * length (now cells) ≤ length (now out) ⌝ }
+    ensures { λ r. ⌜ PrintedWithin (11 * length (now (cells .entry))) (numberFields (keysOf (now (cells .entry)))) (now (out .entry)) at (now (out .exit)) r ⌝ }
+{
+    let mut place = at;
+    let mut i: usize = 0;
+    while i < cells.len() {
+        place = put_key(out, place, cells[i]);
+        i += 1;
+    }
+    place
+}
+
+fn put_list(out: &mut [u8], at: usize, count: usize, cells: &[u32]) -> usize
+    requires { ⌜ at + 21 + 11 * length (now cells) ≤ length (now out) ⌝ }
+    ensures { λ r. ⌜ PrintedWithin (21 + 11 * length (now (cells .entry))) (field (digitsOf count) ++ numberFields (keysOf (now (cells .entry)))) (now (out .entry)) at (now (out .exit)) r ⌝ }
+{
+    let behind = put_field(out, at, count as u64);
+    put_keys(out, behind, cells)
+}
+
+// What a line tells in a phase of `count` workers.
+pub fn put_told(
+    out: &mut [u8],
+    at: usize,
+    told: Told,
+    count: usize,
+    finishes: [Finish; Phase::MOST_WORKERS],
+    cells: &[u32],
+) -> usize
+    requires { ⌜ at + (80 + 11 * length (now cells)) ≤ length (now out) ⌝ }
+    ensures { λ r. ⌜ PrintedWithin (80 + 11 * length (now (cells .entry))) (toldFields told count finishes (now (cells .entry))) (now (out .entry)) at (now (out .exit)) r ⌝ }
+{
+    match told {
+        Told::Replied(reply) => put_reply(out, at, reply),
+        Told::Turned(reply) => put_turn(out, at, reply),
+        Told::Ran => put_finishes(out, at, finishes, count),
+        Told::Listed(keys) => put_list(out, at, keys, cells),
+        Told::Bad => lines::put_bytes(out, at, b"\tbad"),
+    }
+}

@@ -1,0 +1,4 @@
+pub mod Reached
+pub mod Rounding
+pub mod Rounds
+pub mod Settling

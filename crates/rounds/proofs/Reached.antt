@@ -1,0 +1,117 @@
+-- What holds of a phase state and a table that calls lead to, and that further calls lead on.
+use mathlib.Core.Path.{_≡_, refl, sym, _∙_}
+use mathlib.Core.Bool.{true, false}
+use mathlib.Core.List.{List, [], _∷_, _++_}
+use Prim.Native.Nat.{ℕ, _<_}
+use native.Mathlib.Omega.{arith}
+use lib.ListN.{length}
+use borrow.Author.Tests.{eq-eqb, lt-leb}
+use Rattle.layout.specs.Home.{modulo}
+use Rattle.layout.proofs.Home.{mod-home}
+use Rattle.rule.specs.Events as events
+use Rattle.rule.specs.Events.{Event}
+use Rattle.determinism.proofs.Theorem.{phases}
+use Rattle.history.specs.History.{Call, order, turn, close, History, afterOrder, afterTurn, call, run, opening, after}
+use Rattle.history.proofs.Claim.{known}
+use Rattle.history.proofs.Opening.{opening-shows}
+use Rattle.history.proofs.Simulation.{Shows, simulates}
+use Rattle.history.proofs.Theorem.{history as all-lists}
+use Rattle.refusals.specs.Promise.{SoundTable}
+use Rattle.refusals.specs.WellFormed.{Size, Crew, Kind}
+use Rattle.refusals.proofs.Theorem.{open-passed}
+use Rattle.state.specs.Limits.{gateway}
+use Rattle.state.specs.declared.Phase.{Phase}
+use Rattle.state.specs.declared.Reply.{Reply}
+use Rattle.state.specs.declared.Reply.the-variants.{Accepted, Refused}
+use Rattle.calls.specs.Calls.{closeCall, orderCall, turnCheck, turnCall, turnTable}
+use Rattle.calls.specs.WellFormed.{isWellFormed}
+use Rattle.calls.specs.declared.TurnReply.{TurnReply}
+use Rattle.calls.specs.declared.TurnReply.the-variants as turnReply
+use Rattle.rounds.specs.Reached.{From}
+
+-- ---- what a call leaves
+run-append : (cs ds : List Call) (s : History) → run gateway modulo (cs ++ ds) s ≡ run gateway modulo ds (run gateway modulo cs s)
+unfolding run
+run-append [] ds s = refl
+run-append (c ∷ cs) ds s = run-append cs ds (call gateway modulo c s)
+
+after-one : (k m : ℕ) (t : List ℕ) (cs : List Call) (c : Call) → after gateway modulo k m t (cs ++ c ∷ []) ≡ call gateway modulo c (after gateway modulo k m t cs)
+unfolding run
+after-one k m t cs c = run-append cs (c ∷ []) (opening gateway modulo k m t)
+
+-- an order and a turn change the phase state and the table as their calls say, whatever they answer
+order-says : (w v : ℕ) (p : Phase) (a : Reply) (s : History) → (p ≡ afterOrder w v p a s .phase) × (s .table ≡ afterOrder w v p a s .table)
+order-says w v p Accepted s = (refl, refl)
+order-says w v p (Refused r) s = (refl, refl)
+
+turn-says : (w : ℕ) (t : List ℕ) (p : Phase) (a : TurnReply) (s : History) → (p ≡ afterTurn w t p a s .phase) × (t ≡ afterTurn w t p a s .table)
+turn-says w t p (turnReply.Answered a) s = (refl, refl)
+turn-says w t p (turnReply.Refused r) s = (refl, refl)
+
+order-leaves : (w v : ℕ) (s : History)
+    → (orderCall gateway (s .phase) modulo w v .phase ≡ call gateway modulo (order w v) s .phase) × (s .table ≡ call gateway modulo (order w v) s .table)
+unfolding call
+order-leaves w v s = let r = orderCall gateway (s .phase) modulo w v in order-says w v (r .phase) (r .reply) s
+
+pub turn-leaves : (w : ℕ) (s : History) → (turnCall gateway (s .phase) (s .table) w modulo .phase ≡ call gateway modulo (turn w) s .phase)
+    × (turnTable gateway (s .phase) (s .table) w modulo ≡ call gateway modulo (turn w) s .table)
+unfolding call
+turn-leaves w s =
+    let r = turnCall gateway (s .phase) (s .table) w modulo in turn-says w (turnTable gateway (s .phase) (s .table) w modulo) (r .phase) (r .reply) s
+
+module _ (k m : ℕ) (t : List ℕ) (p : Phase) (u : List ℕ) (h : From k m t p u) where
+  -- ---- what holds
+  pub passed : Size gateway (length t) × Crew gateway m × Kind k × SoundTable modulo t
+  passed = open-passed gateway modulo k m t (h .accepted)
+
+  pub homes : (x : ℕ) → modulo (length t) x < length t
+  homes = mod-home (length t) (omega (arith, passed .0))
+
+  abbrev pub history : History
+  history = after gateway modulo k m t (h .calls)
+
+  pub shown : (es : List Event) × Shows k (length t) m history (events.after k (length t) m (modulo (length t)) t es)
+  shown = simulates gateway modulo k (length t) m (h .calls) (opening gateway modulo k m t) (events.opened k m t)
+      (opening-shows gateway modulo k m t homes (h .accepted))
+
+  pub formed : isWellFormed gateway p ≡ true
+  formed = rw (h .phase) (all-lists gateway modulo k m t homes (h .accepted) (h .calls) .formed)
+
+  pub cells : p .length ≡ length t
+  cells = rw (h .phase) (shown .1 .cells)
+
+  pub crew : p .count ≡ m
+  crew = rw (h .phase) (shown .1 .count)
+
+  pub sized : p .length ≡ length u
+  sized =
+      let es = shown .0 in
+      let always = known k (length t) m (modulo (length t)) t es (passed .2)
+      (phases (length t) m (modulo (length t)) homes t (passed .3) es) .always in
+      cells ∙ sym (rw (h .table, shown .1 .table) (always .sized))
+
+  pub accepts : (w : ℕ) → p .shut ≡ false → w < p .count → turnCheck gateway p u w ≡ Accepted
+  accepts w up l = simp (formed, up, eq-eqb _ _ sized, lt-leb _ _ l)
+
+  -- ---- what one more call leaves
+  pub order-from : (w v : ℕ) → From k m t (orderCall gateway p modulo w v .phase) u
+  order-from w v =
+      record {
+        calls = h .calls ++ order w v ∷ [];
+        accepted = h .accepted;
+        phase = rw (after-one, h .phase) (order-leaves w v history .0);
+        table = rw (after-one, h .table) (order-leaves w v history .1);
+      }
+
+  pub turn-from : (w : ℕ) → From k m t (turnCall gateway p u w modulo .phase) (turnTable gateway p u w modulo)
+  turn-from w =
+      record {
+        calls = h .calls ++ turn w ∷ [];
+        accepted = h .accepted;
+        phase = rw (after-one, h .phase, h .table) (turn-leaves w history .0);
+        table = rw (after-one, h .phase, h .table) (turn-leaves w history .1);
+      }
+
+  pub close-from : From k m t (closeCall gateway p .phase) u
+  unfolding call
+  close-from = record { calls = h .calls ++ close ∷ []; accepted = h .accepted; phase = rw (after-one, h .phase); table = rw (after-one, h .table) }

@@ -1,0 +1,3 @@
+pub mod Answering
+pub mod Store
+pub mod Valid

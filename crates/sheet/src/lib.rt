@@ -1,0 +1,286 @@
+// The replay of a shift sheet, line by line: what a line does and what it prints.
+use lines::Line;
+use printing::Told;
+use rest::Counted;
+use rounds::Finish;
+use state::Phase;
+use state::Refusal;
+use state::Reply;
+ghost use mathlib.Core.Path.{_≡_};
+ghost use mathlib.Core.Bool.{false};
+ghost use Prim.Native.Nat.{_+_, _≤_};
+ghost use lib.ListN.{length, take, replicate};
+ghost use Rattle.layout.specs.Home.{modulo};
+ghost use Rattle.state.specs.Limits.{gateway};
+ghost use Rattle.state.specs.Open.{openCall};
+ghost use Rattle.calls.specs.Calls.{closeCall, orderCall};
+ghost use Rattle.sheet.specs.Replay.{blank, inShut, inOpen, readingIn, cellsTask, turnTask, runTask, listTask, calls, performed};
+ghost use Rattle.sheet.specs.Store.{stateOf, replayOf, doneOf, toldOf, Roomy, Runs, Does, Ready, Answers};
+ghost use Rattle.rounds.specs.Reached.{Reached};
+
+// What is kept from line to line, beside the lent cells: the phase, and how many of the cells are the table.
+pub struct Replay {
+    pub phase: Phase,
+    pub length: usize,
+}
+
+// What a line asks for; `Refuse` where the phase is shut.
+pub enum Task {
+    Cells(u32),
+    Open(u32, u32),
+    Order(u32, u32),
+    Turn(u32),
+    Run,
+    Close,
+    List,
+    Refuse,
+}
+
+pub enum Reading {
+    Todo(Task),
+    Bad,
+}
+
+// The replay after a task, with what it tells and how the operations ended in a run.
+pub struct Done {
+    pub replay: Replay,
+    pub told: Told,
+    pub finishes: [Finish; Phase::MOST_WORKERS],
+}
+
+// The replay after a line, the place behind what the line printed, and whether the replay ends there.
+pub struct Answered {
+    pub replay: Replay,
+    pub at: usize,
+    pub ended: bool,
+}
+
+// A replay before its first line. An opening on one cell is refused.
+pub fn start() -> Replay
+    ensures { λ r. ⌜ r ≡ replayOf blank ⌝ }
+{
+    let one = [0u32; 1];
+    let refused = Phase::open(3, 1, &one);
+    let phase = refused.phase;
+    Replay { phase, length: 0 }
+}
+
+// ---- what a line asks for
+fn in_shut(line: Line) -> Reading
+    ensures { λ r. ⌜ r ≡ inShut line ⌝ }
+{
+    match line {
+        Line::Cells(length) => Reading::Todo(Task::Cells(length)),
+        Line::Open(kind, count) => Reading::Todo(Task::Open(kind, count)),
+        Line::Order(_, _) => Reading::Todo(Task::Refuse),
+        Line::Turn(worker) => Reading::Todo(Task::Turn(worker)),
+        Line::Run => Reading::Todo(Task::Refuse),
+        Line::Close => Reading::Todo(Task::Close),
+        Line::List => Reading::Todo(Task::List),
+        Line::BadOrder => Reading::Todo(Task::Refuse),
+        Line::Bad => Reading::Bad,
+    }
+}
+
+fn in_open(line: Line) -> Reading
+    ensures { λ r. ⌜ r ≡ inOpen line ⌝ }
+{
+    match line {
+        Line::Cells(_) => Reading::Bad,
+        Line::Open(_, _) => Reading::Bad,
+        Line::Order(worker, key) => Reading::Todo(Task::Order(worker, key)),
+        Line::Turn(worker) => Reading::Todo(Task::Turn(worker)),
+        Line::Run => Reading::Todo(Task::Run),
+        Line::Close => Reading::Todo(Task::Close),
+        Line::List => Reading::Todo(Task::List),
+        Line::BadOrder => Reading::Bad,
+        Line::Bad => Reading::Bad,
+    }
+}
+
+fn reading_in(shut: bool, line: Line) -> Reading
+    ensures { λ r. ⌜ r ≡ readingIn shut line ⌝ }
+{
+    if shut { in_shut(line) } else { in_open(line) }
+}
+
+// ---- the tasks
+fn tell(phase: Phase, length: usize, told: Told) -> Done
+    ensures { λ r. ⌜ r ≡ toldOf phase length told ⌝ }
+{
+    let finishes = rounds::no_finishes();
+    Done {
+        replay: Replay { phase, length },
+        told,
+        finishes,
+    }
+}
+
+fn clear(cells: &mut [u32])
+    ensures { λ r. ⌜ now (cells .exit) ≡ replicate (length (now (cells .entry))) 0 ⌝ }
+{
+    let mut i: usize = 0;
+    while i < cells.len() {
+        cells[i] = 0;
+        i += 1;
+    }
+}
+
+fn set_cells(replay: Replay, length: u32, cells: &mut [u32]) -> Done
+    requires { ⌜ Roomy replay (now cells) ⌝ }
+    ensures { λ r. ⌜ Does (cellsTask (stateOf replay (now (cells .entry))) length) (now (cells .entry)) (now (cells .exit)) r ⌝ }
+{
+    if length < 2 {
+        return tell(
+            replay.phase,
+            replay.length,
+            Told::Replied(Reply::Refused(Refusal::Size)),
+        );
+    }
+    if 4096 < length {
+        return tell(
+            replay.phase,
+            replay.length,
+            Told::Replied(Reply::Refused(Refusal::Size)),
+        );
+    }
+    let n = length as usize;
+    clear(&mut cells[..n]);
+    tell(replay.phase, n, Told::Replied(Reply::Accepted))
+}
+
+fn open_phase(replay: Replay, kind: u32, count: u32, cells: &[u32]) -> Done
+    requires { ⌜ Roomy replay (now cells) ⌝ }
+    ensures { λ r. ⌜ r ≡ doneOf (calls (take (replay .length) (now (cells .entry))) (openCall gateway modulo kind count (take (replay .length) (now (cells .entry))))) ⌝ }
+{
+    let length = replay.length;
+    let replied = Phase::open(kind as u64, count as u64, &cells[..length]);
+    let phase = replied.phase;
+    let reply = replied.reply;
+    tell(phase, length, Told::Replied(reply))
+}
+
+fn give_order(replay: Replay, worker: u32, key: u32) -> Done
+    ensures { λ r. ⌜ r ≡ toldOf (orderCall gateway (replay .phase) modulo worker key .phase) (replay .length) (Told.Replied (orderCall gateway (replay .phase) modulo worker key .reply)) ⌝ }
+{
+    let phase = replay.phase;
+    let replied = calls::order(phase, worker as usize, key);
+    let next = replied.phase;
+    let reply = replied.reply;
+    tell(next, replay.length, Told::Replied(reply))
+}
+
+fn take_turn(replay: Replay, worker: u32, cells: &mut [u32]) -> Done
+    requires { ⌜ Roomy replay (now cells) ⌝ }
+    ensures { λ r. ⌜ Does (turnTask (stateOf replay (now (cells .entry))) worker) (now (cells .entry)) (now (cells .exit)) r ⌝ }
+{
+    let length = replay.length;
+    let phase = replay.phase;
+    let turned = calls::turn(phase, &mut cells[..length], worker as usize);
+    let next = turned.phase;
+    let reply = turned.reply;
+    tell(next, length, Told::Turned(reply))
+}
+
+fn run_out(replay: Replay, cells: &mut [u32]) -> Done
+    requires { ⌜ Roomy replay (now cells) × (Reached (replay .phase) (take (replay .length) (now cells)) × (replay .phase .shut ≡ false)) ⌝ }
+    ensures { λ r. ⌜ Does (runTask (stateOf replay (now (cells .entry)))) (now (cells .entry)) (now (cells .exit)) r ⌝ }
+{
+    let length = replay.length;
+    let phase = replay.phase;
+    let dealt = rounds::run(phase, &mut cells[..length]);
+    let next = dealt.phase;
+    let finishes = dealt.finishes;
+    Done {
+        replay: Replay {
+            phase: next,
+            length,
+        },
+        told: Told::Ran,
+        finishes,
+    }
+}
+
+fn close_phase(replay: Replay) -> Done
+    ensures { λ r. ⌜ r ≡ toldOf (closeCall gateway (replay .phase) .phase) (replay .length) (Told.Replied (closeCall gateway (replay .phase) .reply)) ⌝ }
+{
+    let phase = replay.phase;
+    let replied = calls::close(phase);
+    let next = replied.phase;
+    let reply = replied.reply;
+    tell(next, replay.length, Told::Replied(reply))
+}
+
+fn list_table(replay: Replay, cells: &[u32]) -> Done
+    requires { ⌜ Roomy replay (now cells) ⌝ }
+    ensures { λ r. ⌜ r ≡ doneOf (listTask (stateOf replay (now (cells .entry)))) ⌝ }
+{
+    let length = replay.length;
+    let counted = rest::count(&cells[..length]);
+    match counted {
+        Counted::Keys(count) => tell(replay.phase, length, Told::Listed(count)),
+        Counted::Refused(why) => tell(replay.phase, length, Told::Replied(Reply::Refused(why))),
+    }
+}
+
+fn perform(replay: Replay, task: Task, cells: &mut [u32]) -> Done
+    requires { ⌜ Roomy replay (now cells) × Runs (stateOf replay (now cells)) task ⌝ }
+    ensures { λ r. ⌜ Does (performed (stateOf replay (now (cells .entry))) task) (now (cells .entry)) (now (cells .exit)) r ⌝ }
+{
+    match task {
+        Task::Cells(length) => set_cells(replay, length, cells),
+        Task::Open(kind, count) => open_phase(replay, kind, count, cells),
+        Task::Order(worker, key) => give_order(replay, worker, key),
+        Task::Turn(worker) => take_turn(replay, worker, cells),
+        Task::Run => run_out(replay, cells),
+        Task::Close => close_phase(replay),
+        Task::List => list_table(replay, cells),
+        Task::Refuse => tell(
+            replay.phase,
+            replay.length,
+            Told::Replied(Reply::Refused(Refusal::Shut)),
+        ),
+    }
+}
+
+// Answers the sheet's line `number`: moves the replay and the cells on, and prints from `at` on.
+pub fn answer(
+    replay: Replay,
+    number: u64,
+    line: Line,
+    cells: &mut [u32],
+    out: &mut [u8],
+    at: usize,
+) -> Answered
+    requires { ⌜ Ready replay (now cells) × (at + 45200 ≤ length (now out)) ⌝ }
+    ensures { λ r. ⌜ Answers (stateOf replay (now (cells .entry))) number line (now (cells .entry)) (now (out .entry)) at (now (cells .exit)) (now (out .exit)) r ⌝ }
+{
+    let from = lines::put_number(out, at, number);
+    let Reading::Todo(task) = reading_in(replay.phase.shut, line) else {
+        let end = lines::put_bytes(out, from, b"\tbad\n");
+        return Answered {
+            replay,
+            at: end,
+            ended: true,
+        };
+    };
+    let done = perform(replay, task, cells);
+    let next = done.replay;
+    let told = done.told;
+    let finishes = done.finishes;
+    let length = next.length;
+    let behind = printing::put_told(
+        out,
+        from,
+        told,
+        next.phase.count as usize,
+        finishes,
+        &cells[..length],
+    );
+    let end = lines::put_bytes(out, behind, b"\n");
+    Answered {
+        replay: next,
+        at: end,
+        ended: false,
+    }
+}
