@@ -11,7 +11,8 @@ use Rattle.layout.proofs.Home.{mod-home}
 use Rattle.rule.specs.Events as events
 use Rattle.rule.specs.Events.{Event}
 use Rattle.determinism.proofs.Theorem.{phases}
-use Rattle.history.specs.History.{Call, order, turn, close, History, afterOrder, afterTurn, call, run, opening, after}
+use Rattle.history.specs.History.{Call, order, turn, close, History, afterOrder, afterTurn, call, opening, after}
+use Rattle.history.proofs.Lists.{run-last}
 use Rattle.history.proofs.Claim.{known}
 use Rattle.history.proofs.Opening.{opening-shows}
 use Rattle.history.proofs.Simulation.{Shows, simulates}
@@ -30,14 +31,8 @@ use Rattle.calls.specs.declared.TurnReply.the-variants as turnReply
 use Rattle.rounds.specs.Reached.{From}
 
 -- ---- what a call leaves
-run-append : (cs ds : List Call) (s : History) → run gateway modulo (cs ++ ds) s ≡ run gateway modulo ds (run gateway modulo cs s)
-unfolding run
-run-append [] ds s = refl
-run-append (c ∷ cs) ds s = run-append cs ds (call gateway modulo c s)
-
 after-one : (k m : ℕ) (t : List ℕ) (cs : List Call) (c : Call) → after gateway modulo k m t (cs ++ c ∷ []) ≡ call gateway modulo c (after gateway modulo k m t cs)
-unfolding run
-after-one k m t cs c = run-append cs (c ∷ []) (opening gateway modulo k m t)
+after-one k m t cs c = run-last gateway modulo cs c (opening gateway modulo k m t)
 
 -- an order and a turn change the phase state and the table as their calls say, whatever they answer
 order-says : (w v : ℕ) (p : Phase) (a : Reply) (s : History) → (p ≡ afterOrder w v p a s .phase) × (s .table ≡ afterOrder w v p a s .table)

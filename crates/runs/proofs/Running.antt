@@ -1,4 +1,4 @@
--- One call more at the end of a list of calls.
+-- What one call more adds to a list of calls and their answers.
 use mathlib.Core.Path.{_≡_, refl, sym, ap, _∙_}
 use mathlib.Core.List.{List, [], _∷_, _++_, append-assoc}
 use Prim.Native.Nat.{ℕ, zero, suc, _+_, _<_}
@@ -8,6 +8,7 @@ use lib.Seq.{drop-cons, set-at}
 use Rattle.state.specs.Limits.{Limits}
 use Rattle.state.specs.declared.Phase.{Phase}
 use Rattle.history.specs.History.{Call, History, call, run}
+use Rattle.history.proofs.Lists.{run-last}
 use Rattle.runs.specs.Runs.{callOf, callsOf, answerOf, answersOf, Applies, RunsFrom}
 use Rattle.runs.specs.declared.Applied.{Applied}
 
@@ -17,11 +18,6 @@ length-calls ops workers keys zero = refl
 length-calls ops workers keys (suc i) = length-append (callsOf ops workers keys i) _ ∙ add-one _ ∙ ap suc (length-calls ops workers keys i)
 
 module _ (L : Limits) (home : ℕ → ℕ → ℕ) where
-  run-last : (cs : List Call) (c : Call) (s : History) → run L home (cs ++ (c ∷ [])) s ≡ call L home c (run L home cs s)
-  unfolding run
-  run-last [] c s = refl
-  run-last (d ∷ cs) c s = run-last cs c (call L home d s)
-
   answers-last : (cs : List Call) (c : Call) (s : History)
       → answersOf L home (cs ++ (c ∷ [])) s ≡ answersOf L home cs s ++ (answerOf L home c (run L home cs s) ∷ [])
   unfolding run answersOf
@@ -63,7 +59,7 @@ module _ (L : Limits) (home : ℕ → ℕ → ℕ) where
         let a = applies (run L home cs s) (sym (h .phase)) (sym (h .table)) in
         rw (add-one i)
         record {
-          phase = a .phase ∙ ap (λ (x : History). x .phase) (sym (run-last cs c s));
-          table = a .table ∙ ap (λ (x : History). x .table) (sym (run-last cs c s));
+          phase = a .phase ∙ ap (λ (x : History). x .phase) (sym (run-last L home cs c s));
+          table = a .table ∙ ap (λ (x : History). x .table) (sym (run-last L home cs c s));
           answers = place cs c s out₀ out i (r .answer) (length-calls ops workers keys i) below (h .answers) (a .answer);
         }
