@@ -8,7 +8,7 @@ use Rattle.rule.specs.declared.Answer.{Answer}
 use Rattle.rule.specs.declared.Answer.the-variants.{WentOn, Finished, Yes, No}
 use Rattle.rule.specs.declared.Answer.the-variants as answer
 use Rattle.phases.specs.Promise.{mostRest}
-use Rattle.state.specs.Limits.{Limits, gateway}
+use Rattle.state.specs.Limits.{gateway}
 use Rattle.state.specs.declared.Phase.{Phase}
 use Rattle.calls.specs.Calls.{allIdle, turnCall, turnTable}
 use Rattle.calls.specs.declared.TurnReply.{TurnReply}

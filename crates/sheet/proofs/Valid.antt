@@ -1,11 +1,11 @@
 -- Lines lead from valid states to valid states.
-use mathlib.Core.Path.{_≡_, refl, sym, ap, _∙_, subst}
+use mathlib.Core.Path.{_≡_, refl, sym, _∙_, subst, ap}
 use mathlib.Core.Bool.{Bool, true, false}
 use mathlib.Core.List.{List, []}
-use Prim.Native.Nat.{ℕ}
+use Prim.Native.Nat.{ℕ, _≤_}
 use native.Mathlib.Omega.{arith}
 use lib.Dec.{ltb}
-use lib.ListN.{length-replicate}
+use lib.ListN.{length, length-replicate}
 use borrow.Author.Tests.{ltb-false}
 use Rattle.layout.specs.Home.{modulo}
 use Rattle.history.specs.History as history
@@ -27,9 +27,10 @@ use Rattle.rounds.proofs.Reached.{order-from, turn-from, close-from}
 use Rattle.rounds.proofs.Settling.{turn-shut, turn-length, run-reached, run-length}
 use Rattle.sheet.specs.declared.Reading.{Reading}
 use Rattle.sheet.specs.declared.Reading.the-variants.{Todo, Bad}
+use Rattle.sheet.specs.declared.Replay.{Replay}
 use Rattle.sheet.specs.declared.Task.{Task}
 use Rattle.sheet.specs.Replay.{State, Step, readingIn, cellsTask, performed, answered, answerOf, blank}
-use Rattle.sheet.specs.Store.{Runs}
+use Rattle.sheet.specs.Store.{replayOf, Runs, Ready}
 use Rattle.sheet.specs.Valid.{Valid}
 
 -- a phase is not both open and shut
@@ -38,6 +39,10 @@ never b e f = absurd (let z : _≡_ {A = ℕ} 0 1 = cc in omega arith)
 
 pub blank-valid : Valid blank
 blank-valid = record { few = omega arith; reached = λ f. never true refl f }
+
+-- what `start` gives is ready for a first line
+pub blank-ready : (r : Replay) (cells : List ℕ) → r ≡ replayOf blank → 4096 ≤ length cells → Ready r cells
+blank-ready r cells e l = rw e (record { roomy = record { fits = omega arith; most = l }; valid = blank-valid })
 
 -- ---- openings
 opened-reached : (k m : ℕ) (t : List ℕ) (a : Reply) → openReply gateway modulo k m t ≡ a

@@ -8,10 +8,8 @@ use Rattle.layout.specs.Home.{modulo}
 use Rattle.state.specs.Limits.{gateway}
 use Rattle.state.specs.Open.{refusedPhase, openCall}
 use Rattle.state.specs.declared.Phase.{Phase}
-use Rattle.state.specs.declared.Refusal.{Refusal}
 use Rattle.state.specs.declared.Refusal.the-variants.{Size, Shut}
 use Rattle.state.specs.declared.Replied.{Replied}
-use Rattle.state.specs.declared.Reply.{Reply}
 use Rattle.state.specs.declared.Reply.the-variants.{Accepted, Refused}
 use Rattle.rest.specs.Calls.{listCall}
 use Rattle.rest.specs.declared.Counted.{Counted}

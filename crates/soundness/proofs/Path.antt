@@ -1,19 +1,18 @@
--- The walk along one key's path: it comes to its cell exactly if every cell on the path holds a greater key.
+-- One key's path as at most two stretches of cells: from its home to its cell, or to the table's end and on from cell 0.
 use mathlib.Core.Path.{_≡_, refl}
-use mathlib.Core.Logic.{_≢_}
-use mathlib.Core.Bool.{Bool, true, false}
+use mathlib.Core.Bool.{Bool, true, false, _&&_, _||_}
 use mathlib.Core.List.{List}
-use Prim.Native.Nat.{ℕ, suc, _+_, _-_, _≤_, _<_}
+use Prim.Native.Nat.{ℕ, suc, _+_, _≤_, _<_}
 use native.Mathlib.Omega.{arith}
-use lib.Dec.{T, leb, leb→le, le→leb, ltb→lt, lt→ltb}
+use lib.Dec.{T, leb, ltb, leb→le, le→leb, ltb→lt, lt→ltb}
 use lib.ListN.{length, getD}
-use Rattle.ring.specs.Ring.{next}
-use Rattle.ring.proofs.Ring.{wrap-fact, dist-fact, dist-inj, next-in}
+use Rattle.ring.proofs.Ring.{Distance, dist-fact}
 use Rattle.ring.proofs.Split.{by-lt, by-eq}
 use Rattle.layout.specs.Home.{modulo}
+use Rattle.layout.specs.Sound.{all}
 use Rattle.layout.proofs.Home.{mod-home}
-use Rattle.layout.proofs.Tests.{all-at, all-of, by-or, or-left, or-right}
-use Rattle.soundness.specs.Path.{steps, clearTo}
+use Rattle.layout.proofs.Tests.{all-at, all-of, and-of, and-left, and-right, by-or, or-left, or-right}
+use Rattle.soundness.specs.Path.{greaterBetween, steps, clearTo}
 
 -- ---- a test's value
 pub is-true : (b : Bool) → T b → true ≡ b
@@ -24,75 +23,82 @@ pub is-false : (b : Bool) → (T b → ⊥) → false ≡ b
 is-false true h = absurd (h tt)
 is-false false h = refl
 
--- ---- the next cell, as the code steps to it
-pub next-wraps : {n c : ℕ} → c < n → c + 1 ≡ n → next n c ≡ 0
-next-wraps {n} {c} l e = omega (arith, wrap-fact n (suc c) (omega arith))
+same-value : (a b : Bool) → (T a → T b) → (T b → T a) → a ≡ b
+same-value true b f g = is-true b (f tt)
+same-value false b f g = is-false b g
 
-pub next-stays : {n c : ℕ} → c < n → c + 1 ≢ n → next n c ≡ c + 1
-next-stays {n} {c} l ne = omega (arith, wrap-fact n (suc c) (omega arith))
+-- ---- a test at each c below m with v c < u c
+module _ (u v : ℕ → ℕ) (p : ℕ → Bool) (m : ℕ) where
+  among-at : T (all (λ c. leb (u c) (v c) || p c) m) → (c : ℕ) → c < m → v c < u c → T (p c)
+  among-at h c l g = by-or (leb (u c) (v c)) (p c) (all-at _ m h c l) (λ q. absurd (omega (arith, leb→le))) (λ q. q)
 
--- ---- the walk from the home of x towards cell j
--- it has come to cell c, not past j, and every cell behind it holds a greater key
-pub record Walked (t : List ℕ) (x j c : ℕ) : Type 0 where
-  pub target : j < length t
-  pub inside : c < length t
-  pub short : steps t x c ≤ steps t x j
-  pub greater : (i : ℕ) → i < length t → steps t x i < steps t x c → x < getD t i 0
+  among-of : ((c : ℕ) → c < m → v c < u c → T (p c)) → T (all (λ c. leb (u c) (v c) || p c) m)
+  among-of f = all-of _ m (λ c l. by-lt (v c) (u c) (λ g. or-right (leb (u c) (v c)) (p c) (f c l g)) (λ g. or-left (leb (u c) (v c)) (p c) (le→leb _ _ g)))
 
-home-in : (t : List ℕ) (x j : ℕ) → j < length t → modulo (length t) x < length t
-home-in t x j jn = mod-home (length t) (omega arith) x
+module _ (t : List ℕ) (x : ℕ) where
+  abbrev greaterAt : ℕ → Bool
+  greaterAt c = ltb x (getD t c 0)
 
-pub walk-starts : (t : List ℕ) (x j : ℕ) → j < length t → Walked t x j (modulo (length t) x)
-walk-starts t x j jn =
-    let h = home-in t x j jn in
-    let z = dist-fact (length t) (modulo (length t) x) (modulo (length t) x) h h in
-    record { target = jn; inside = h; short = omega arith; greater = λ i _ l. absurd (omega arith) }
+  module _ (a b : ℕ) where
+    between-at : T (greaterBetween t x a b) → (c : ℕ) → a ≤ c → c < b → T (greaterAt c)
+    unfolding greaterBetween
+    between-at h c l g = among-at suc (λ _. a) greaterAt b h c g (omega arith)
 
-pub walked-clear : {t : List ℕ} {x j : ℕ} → Walked t x j j → true ≡ clearTo t x j
-unfolding clearTo
-walked-clear {t} {x} {j} w = is-true _ (all-of _ (length t) (λ i l. by-lt (steps t x i) (steps t x j)
-    (λ p. or-right (leb (steps t x j) (steps t x i)) _ (lt→ltb _ _ (w .greater i l p)))
-    (λ p. or-left (leb (steps t x j) (steps t x i)) _ (le→leb _ _ p))))
+    between-of : ((c : ℕ) → a ≤ c → c < b → T (greaterAt c)) → T (greaterBetween t x a b)
+    unfolding greaterBetween
+    between-of f = among-of suc (λ _. a) greaterAt b (λ c l g. f c (omega arith) l)
 
-module _ {t : List ℕ} {x j c : ℕ} (w : Walked t x j c) (ne : c ≢ j) where
-  home : modulo (length t) x < length t
-  home = home-in t x j (w .target)
+  -- ---- the path to cell j in stretches
+  module _ (j : ℕ) (jn : j < length t) where
+    abbrev home : ℕ
+    home = modulo (length t) x
 
-  -- cell c is on the path
-  nearer : steps t x c < steps t x j
-  nearer = by-eq (steps t x c) (steps t x j)
-      (λ e. absurd (ne (dist-inj (length t) (modulo (length t) x) home c j (w .inside) (w .target) e)))
-      (λ e. omega arith)
+    away : (c : ℕ) → c < length t → Distance (length t) home c
+    away c cn = dist-fact (length t) home c (mod-home (length t) (omega arith) x) cn
 
-  pub stopped-unclear : getD t c 0 ≤ x → false ≡ clearTo t x j
-  unfolding clearTo
-  stopped-unclear l = is-false _ (λ h. by-or (leb (steps t x j) (steps t x c)) _ (all-at _ (length t) h c (w .inside))
-      (λ g. omega (arith, nearer, leb→le))
-      (λ g. omega (arith, ltb→lt)))
+    clear-at : T (clearTo t x j) → (c : ℕ) → c < length t → steps t x c < steps t x j → T (greaterAt c)
+    unfolding clearTo
+    clear-at = among-at (λ _. steps t x j) (steps t x) greaterAt (length t)
 
-  -- the walk goes on to the next cell, d
-  module _ {d : ℕ} (e : next (length t) c ≡ d) where
-    one-more : steps t x d ≡ suc (steps t x c)
-    one-more =
-        let l = nearer in
-        omega (
-          arith,
-          wrap-fact (length t) (suc c) (omega arith),
-          dist-fact (length t) (modulo (length t) x) c home (w .inside),
-          dist-fact (length t) (modulo (length t) x) j home (w .target),
-          dist-fact (length t) (modulo (length t) x) d home (omega (arith, next-in (length t) c (w .inside))),
-        )
+    clear-of : ((c : ℕ) → c < length t → steps t x c < steps t x j → T (greaterAt c)) → T (clearTo t x j)
+    unfolding clearTo
+    clear-of = among-of (λ _. steps t x j) (steps t x) greaterAt (length t)
 
-    pub walk-goes-on : x < getD t c 0 → Walked t x j d
-    walk-goes-on g =
-        record {
-          target = w .target;
-          inside = omega (arith, next-in (length t) c (w .inside));
-          short = omega (arith, nearer, one-more);
-          greater = λ i l p. by-eq (steps t x i) (steps t x c)
-              (λ q. rw (dist-inj (length t) (modulo (length t) x) home i c l (w .inside) q) g)
-              (λ q. w .greater i l (omega (arith, one-more)));
-        }
+    pub straight-clear : home ≤ j → greaterBetween t x home j ≡ clearTo t x j
+    straight-clear l = same-value _ _
+        (λ h. clear-of (λ c cn s. between-at home j h c (omega (arith, away c cn, away j jn)) (omega (arith, away c cn, away j jn))))
+        (λ h. between-of home j (λ c a b. let cn : c < length t = omega arith in clear-at h c cn (omega (arith, away c cn, away j jn))))
 
-    pub walk-nears : steps t x j - steps t x d < steps t x j - steps t x c
-    walk-nears = omega (arith, nearer, one-more)
+    -- a path that wraps goes to the table's end and on from cell 0; r is what the test of the first stretch gave
+    abbrev to-end : Bool
+    to-end = greaterBetween t x home (length t)
+
+    abbrev from-start : Bool
+    from-start = greaterBetween t x 0 j
+
+    pub wrapped-clear : {r : Bool} → j < home → to-end ≡ r → (r && from-start) ≡ clearTo t x j
+    wrapped-clear l e = rw (← e) (same-value (to-end && from-start) _
+        (λ h. clear-of (λ c cn s. by-lt c home
+        (λ a. between-at 0 j (and-right to-end _ h) c (omega arith) (omega (arith, away c cn, away j jn)))
+        (λ a. between-at home (length t) (and-left to-end _ h) c a cn)))
+        (λ h. and-of to-end from-start
+        (between-of home (length t) (λ c a cn. clear-at h c cn (omega (arith, away c cn, away j jn))))
+        (between-of 0 j (λ c _ b. let cn : c < length t = omega arith in clear-at h c cn (omega (arith, away c cn, away j jn))))))
+
+-- ---- the loop over a stretch: it has come to cell i, and every cell behind it holds a greater key
+pub record Read (t : List ℕ) (x a i : ℕ) : Type 0 where
+  pub begun : a ≤ i
+  pub greater : (c : ℕ) → a ≤ c → c < i → x < getD t c 0
+
+pub read-starts : (t : List ℕ) (x a : ℕ) → Read t x a a
+read-starts t x a = record { begun = omega arith; greater = λ c l g. absurd (omega arith) }
+
+module _ {t : List ℕ} {x a i : ℕ} (r : Read t x a i) where
+  pub read-on : x < getD t i 0 → Read t x a (i + 1)
+  read-on g = record { begun = omega arith; greater = λ c l b. by-eq c i (λ e. rw e g) (λ e. r .greater c l (omega arith)) }
+
+  pub read-stops : {b : ℕ} → i < b → getD t i 0 ≤ x → false ≡ greaterBetween t x a b
+  read-stops {b} l g = is-false _ (λ h. omega (arith, ltb→lt x (getD t i 0) (between-at t x a b h i (r .begun) l)))
+
+  pub read-ends : {b : ℕ} → b ≤ i → true ≡ greaterBetween t x a b
+  read-ends {b} l = is-true _ (between-of t x a b (λ c p q. lt→ltb _ _ (r .greater c p (omega arith))))

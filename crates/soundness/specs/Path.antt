@@ -8,6 +8,10 @@ use Rattle.ring.specs.Ring.{dist}
 use Rattle.layout.specs.Home.{modulo}
 use Rattle.layout.specs.Sound.{all}
 
+-- the cells from a up to, not including, b hold only keys greater than x
+unfoldable pub greaterBetween : List ℕ → ℕ → ℕ → ℕ → Bool
+greaterBetween t x a b = all (λ c. ltb c a || ltb x (getD t c 0)) b
+
 -- how many steps on from the home of key x cell c stands
 abbrev pub steps : List ℕ → ℕ → ℕ → ℕ
 steps t x c = dist (length t) (modulo (length t) x) c

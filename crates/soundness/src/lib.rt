@@ -1,28 +1,40 @@
 // Whether a table is sound, cell by cell.
 ghost use mathlib.Core.Path.{_≡_};
-ghost use Prim.Native.Nat.{_<_};
+ghost use Prim.Native.Nat.{_≤_, _<_};
 ghost use lib.ListN.{length};
 ghost use Rattle.layout.specs.Home.{modulo};
 ghost use Rattle.layout.specs.Sound.{isSound};
-ghost use Rattle.soundness.specs.Path.{clearTo};
+ghost use Rattle.soundness.specs.Path.{greaterBetween, clearTo};
 
-// Whether the path of `key` to cell `j` holds only greater keys. It reads each cell of the path once.
+// Whether the cells from `from` up to, not including, `to` hold only greater keys.
+fn greater_between(cells: &[u32], key: u32, from: usize, to: usize) -> bool
+    requires { ⌜ to ≤ length (now cells) ⌝ }
+    ensures { λ r. ⌜ r ≡ greaterBetween (now (cells .entry)) key from to ⌝ }
+{
+    let mut i = from;
+    while i < to {
+        if cells[i] <= key {
+            return false;
+        }
+        i += 1;
+    }
+    true
+}
+
+// Whether the path of `key` to cell `j` holds only greater keys. A path that wraps is read in two stretches.
 fn path_is_clear(cells: &[u32], key: u32, j: usize) -> bool
     requires { ⌜ j < length (now cells) ⌝ }
     ensures { λ r. ⌜ r ≡ clearTo (now (cells .entry)) key j ⌝ }
 {
     let n = cells.len();
-    let mut c = key as usize % n;
-    while c != j {
-        if cells[c] <= key {
-            return false;
-        }
-        c += 1;
-        if c == n {
-            c = 0;
-        }
+    let home = key as usize % n;
+    if home <= j {
+        return greater_between(cells, key, home, j);
     }
-    true
+    if !greater_between(cells, key, home, n) {
+        return false;
+    }
+    greater_between(cells, key, 0, j)
 }
 
 // Whether at least one cell is empty and every key's path holds only greater keys.

@@ -1,73 +1,46 @@
--- The walk reads one cell after the other from the key's home on. It stops at a key that is not greater, or comes to cell `j`.
-use Prim.Native.Nat.{_-_}
+-- The path is one stretch, or wraps and is two.
+use mathlib.Core.Path.{sym, _∙_}
 use native.Mathlib.Omega.{arith}
+use borrow.Author.Tests.{not-true, not-false}
 use borrow.Author.Needs.{needs}
-use Rattle.soundness.specs.Path.{steps}
-use Rattle.soundness.proofs.Path.{next-wraps, next-stays, Walked, walk-starts, walk-goes-on, walk-nears, walked-clear, stopped-unclear}
+use Rattle.soundness.proofs.Path.{straight-clear, wrapped-clear}
 use Rattle.soundness.proofs.path_is_clear.Statement.{statement}
 use Rattle.soundness.proofs.path_is_clear.Tie as tie
 
-abbrev Inv-loop : tie.InvT-loop
-Inv-loop cells key j n c₀ c = Walked cells key j c
+rem-home : tie.Need-rem-home
+rem-home c = search needs
 
-abbrev μ-loop : tie.MeasureT-loop
-μ-loop cells key j n c₀ c = steps cells key j - steps cells key c
+greater-between-requires : tie.Need-greater-between-requires
+greater-between-requires c κs = search needs
 
-rem-c : tie.Need-rem-c Inv-loop μ-loop
-rem-c c = search needs
+returns : tie.Need-returns
+returns c = c .greater-between .ensures ∙ straight-clear _ _ _ (c .before .before .before .pre) (omega arith)
 
-loop-holds : tie.Need-loop-holds Inv-loop μ-loop
-loop-holds c = walk-starts (c .args .cells .now) (c .args .key) (c .args .j) (c .pre)
+greater-between-requires-2 : tie.Need-greater-between-requires-2
+greater-between-requires-2 c κs = search needs
 
-mul-if1 : tie.Need-mul-if1 Inv-loop μ-loop
-mul-if1 c = search needs
+returns-2 : tie.Need-returns-2
+returns-2 c =
+    wrapped-clear _ _ _ (c .before .before .before .before .pre) (c .before .before .if1 .left)
+    (sym (c .before .greater-between2 .ensures) ∙ not-true _ (c .if2 .taken))
 
-shared-slice-read-if1 : tie.Need-shared-slice-read-if1 Inv-loop μ-loop
-shared-slice-read-if1 c = search needs
+greater-between-requires-3 : tie.Need-greater-between-requires-3
+greater-between-requires-3 c κs = search needs
 
-returns : tie.Need-returns Inv-loop μ-loop
-returns c = stopped-unclear (c .before .before .before .loop .inv) (c .before .before .loop-test .taken) (omega arith)
-
-add-c : tie.Need-add-c Inv-loop μ-loop
-add-c c = search needs
-
-loop-less : tie.Need-loop-less Inv-loop μ-loop
-loop-less c =
-    walk-nears (c .before .before .before .before .loop .inv) (c .before .before .before .loop-test .taken)
-    (next-wraps (c .before .before .before .before .loop .inv .inside) (c .if2 .taken))
-
-loop-again : tie.Need-loop-again Inv-loop μ-loop
-loop-again c =
-    walk-goes-on (c .before .before .before .before .loop .inv) (c .before .before .before .loop-test .taken)
-    (next-wraps (c .before .before .before .before .loop .inv .inside) (c .if2 .taken)) (c .before .if1 .left)
-
-loop-less-2 : tie.Need-loop-less-2 Inv-loop μ-loop
-loop-less-2 c =
-    walk-nears (c .before .before .before .before .loop .inv) (c .before .before .before .loop-test .taken)
-    (next-stays (c .before .before .before .before .loop .inv .inside) (c .if2 .left))
-
-loop-again-2 : tie.Need-loop-again-2 Inv-loop μ-loop
-loop-again-2 c =
-    walk-goes-on (c .before .before .before .before .loop .inv) (c .before .before .before .loop-test .taken)
-    (next-stays (c .before .before .before .before .loop .inv .inside) (c .if2 .left)) (c .before .if1 .left)
-
-returns-2 : tie.Need-returns-2 Inv-loop μ-loop
-returns-2 c = walked-clear (rw (c .loop-test .left) at (c .before .loop .inv))
+returns-3 : tie.Need-returns-3
+returns-3 c =
+    c .greater-between3 .ensures ∙
+    wrapped-clear _ _ _ (c .before .before .before .before .before .pre) (c .before .before .before .if1 .left)
+    (sym (c .before .before .greater-between2 .ensures) ∙ not-false _ (c .before .if2 .left))
 
 pub path-is-clear-spec : {M : Type 1} → statement M
 path-is-clear-spec =
     tie.close
     (tie.spec
-    Inv-loop
-    μ-loop
-    rem-c
-    loop-holds
-    mul-if1
-    shared-slice-read-if1
+    rem-home
+    greater-between-requires
     returns
-    add-c
-    loop-less
-    loop-again
-    loop-less-2
-    loop-again-2
-    returns-2)
+    greater-between-requires-2
+    returns-2
+    greater-between-requires-3
+    returns-3)

@@ -1,0 +1,656 @@
+//! Random shift sheets, each reproducible from one seed.
+//!
+//! A sheet is a few chapters. A chapter sets up a fresh table and works
+//! several shifts on it, each ended by `run` and `close`, so an undamaged sheet
+//! is never `bad`. Some sheets are damaged afterwards. While writing, the
+//! generator replays the shift, to know who is busy and what the table holds;
+//! this only steers its choices.
+
+use crate::phase::{Activity, Phase};
+
+/// A seeded xorshift generator.
+pub struct Rng(u64);
+
+impl Rng {
+    pub fn new(seed: u64) -> Rng {
+        // One splitmix step, so that near seeds differ; never 0.
+        let mut z = seed.wrapping_add(0x9e37_79b9_7f4a_7c15);
+        z = (z ^ (z >> 30)).wrapping_mul(0xbf58_476d_1ce4_e5b9);
+        z = (z ^ (z >> 27)).wrapping_mul(0x94d0_49bb_1331_11eb);
+        Rng((z ^ (z >> 31)).max(1))
+    }
+
+    pub fn draw(&mut self) -> u64 {
+        self.0 ^= self.0 << 13;
+        self.0 ^= self.0 >> 7;
+        self.0 ^= self.0 << 17;
+        self.0.wrapping_mul(0x2545_f491_4f6c_dd1d)
+    }
+
+    /// A number below `bound`, which isn't 0.
+    pub fn below(&mut self, bound: usize) -> usize {
+        ((self.draw() >> 32) as usize) % bound
+    }
+
+    /// A number from `low` to `high`.
+    pub fn within(&mut self, low: usize, high: usize) -> usize {
+        low + self.below(high - low + 1)
+    }
+
+    /// True once in `many`.
+    pub fn once_in(&mut self, many: usize) -> bool {
+        self.below(many) == 0
+    }
+
+    pub fn pick<T: Copy>(&mut self, from: &[T]) -> T {
+        from[self.below(from.len())]
+    }
+}
+
+/// The styles of chapters.
+#[derive(Clone, Copy, Debug, PartialEq, Eq)]
+pub enum Style {
+    /// Few cells, nearly all taken.
+    Crowded,
+    /// All labels at home in the last cells.
+    Wrap,
+    /// All labels at home in one cell.
+    OneHome,
+    /// Labels in steps of 100.
+    Hundreds,
+    /// Labels near 4294967295.
+    Greatest,
+    /// 16 workers on a middling table.
+    Sixteen,
+    /// Up to 4,096 cells.
+    Large,
+}
+
+const STYLES: [Style; 13] = [
+    Style::Crowded,
+    Style::Crowded,
+    Style::Crowded,
+    Style::Wrap,
+    Style::Wrap,
+    Style::OneHome,
+    Style::OneHome,
+    Style::Hundreds,
+    Style::Hundreds,
+    Style::Greatest,
+    Style::Greatest,
+    Style::Sixteen,
+    Style::Sixteen,
+];
+
+/// A random sheet.
+pub fn sheet(seed: u64) -> Vec<u8> {
+    let mut rng = Rng::new(seed);
+    let rng = &mut rng;
+    match rng.below(100) {
+        0 => Vec::new(),
+        1 | 2 => noise(rng),
+        3 | 4 => loose(rng),
+        _ => {
+            let mut text = sound_sheet(rng);
+            if rng.once_in(3) {
+                damage(rng, &mut text);
+            }
+            if rng.once_in(4) && text.last() == Some(&b'\n') {
+                text.pop();
+            }
+            text
+        }
+    }
+}
+
+/// A random sheet without any `bad` line.
+pub fn undamaged(seed: u64) -> Vec<u8> {
+    sound_sheet(&mut Rng::new(seed))
+}
+
+/// One undamaged chapter of the given style.
+pub fn styled(style: Style, seed: u64) -> Vec<u8> {
+    let mut sheet = Sheet::new();
+    chapter(&mut Rng::new(seed), style, &mut sheet);
+    sheet.text
+}
+
+/// Random bytes, mostly those of sheets.
+fn noise(rng: &mut Rng) -> Vec<u8> {
+    let length = rng.below(60);
+    let common = b"\t\n0123456789clodrunist\0\r ";
+    (0..length)
+        .map(|_| match rng.once_in(8) {
+            true => rng.draw() as u8,
+            false => rng.pick(common),
+        })
+        .collect()
+}
+
+/// Readable lines in no order at all.
+fn loose(rng: &mut Rng) -> Vec<u8> {
+    let lines: Vec<String> = (0..rng.within(1, 60))
+        .map(|_| match rng.below(14) {
+            0 => format!("cells\t{}\n", rng.below(9)),
+            1 | 2 => format!("open\t{}\t{}\n", rng.below(5), rng.below(4)),
+            3..=6 => format!("order\t{}\t{}\n", rng.below(4), rng.below(12)),
+            7..=9 => format!("turn\t{}\n", rng.below(4)),
+            10 | 11 => "run\n".to_string(),
+            12 => "close\n".to_string(),
+            _ => "list\n".to_string(),
+        })
+        .collect();
+    lines.concat().into_bytes()
+}
+
+/// A sheet being written, with the shift as it stands after the last line.
+struct Sheet {
+    text: Vec<u8>,
+    table: Vec<u32>,
+    phase: Phase,
+}
+
+impl Sheet {
+    fn new() -> Sheet {
+        Sheet {
+            text: Vec::new(),
+            table: Vec::new(),
+            phase: Phase::shut(),
+        }
+    }
+
+    /// Writes a line that changes nothing.
+    fn line(&mut self, line: &str) {
+        self.text.extend_from_slice(line.as_bytes());
+        self.text.push(b'\n');
+    }
+
+    fn cells(&mut self, n: usize) {
+        self.line(&format!("cells\t{n}"));
+        self.table = vec![0; n];
+    }
+
+    fn open(&mut self, kind: u32, workers: usize) {
+        self.line(&format!("open\t{kind}\t{workers}"));
+        self.phase = Phase::open(kind.into(), workers as u64, &self.table)
+            .expect("the shift is shut and its table sound");
+    }
+
+    fn order(&mut self, worker: usize, label: u32) {
+        self.line(&format!("order\t{worker}\t{label}"));
+        let _ = self.phase.order(worker as u64, label);
+    }
+
+    fn turn(&mut self, worker: usize) {
+        self.line(&format!("turn\t{worker}"));
+        let _ = self.phase.turn(&mut self.table, worker as u64);
+    }
+
+    fn run(&mut self) {
+        self.line("run");
+        while !self.phase.all_idle() {
+            for worker in 0..self.phase.count {
+                let _ = self.phase.turn(&mut self.table, worker as u64);
+            }
+        }
+    }
+
+    fn close(&mut self) {
+        self.line("close");
+        let _ = self.phase.close();
+    }
+
+    /// The workers with unfinished orders.
+    fn busy(&self) -> Vec<usize> {
+        (0..self.phase.count)
+            .filter(|&worker| self.phase.workers[worker] != Activity::Idle)
+            .collect()
+    }
+}
+
+fn sound_sheet(rng: &mut Rng) -> Vec<u8> {
+    let mut sheet = Sheet::new();
+    if rng.once_in(4) {
+        for _ in 0..rng.within(1, 4) {
+            shut_mistake(rng, &mut sheet);
+        }
+    }
+    for _ in 0..rng.within(1, 4) {
+        let style = if rng.once_in(40) {
+            Style::Large
+        } else {
+            rng.pick(&STYLES)
+        };
+        chapter(rng, style, &mut sheet);
+    }
+    sheet.text
+}
+
+/// The facts a chapter is written from.
+struct Chapter {
+    /// Labels to order.
+    pool: Vec<u32>,
+    cells: usize,
+    most_workers: usize,
+    /// Rounds of orders in a put-in shift.
+    most_rounds: usize,
+}
+
+fn plan(rng: &mut Rng, style: Style) -> Chapter {
+    let (cells, most_workers) = match style {
+        Style::Crowded => (rng.within(2, 9), 4),
+        Style::Wrap => (rng.within(3, 12), 4),
+        Style::OneHome => (rng.within(3, 14), 5),
+        Style::Hundreds => (
+            rng.pick(&[7, 10, 12, 20, 25, 50, 64, 65, 99, 100, 101, 128]),
+            6,
+        ),
+        Style::Greatest => (rng.within(2, 20), 5),
+        Style::Sixteen => (rng.within(17, 80), 16),
+        Style::Large => (rng.pick(&[512, 1000, 2048, 3001, 4095, 4096]), 16),
+    };
+    let n = cells as u32;
+    let mut pool: Vec<u32> = match style {
+        Style::Crowded => (1..=3 * n).collect(),
+        Style::Wrap => (1..=n)
+            .flat_map(|turn| [turn * n - 1, turn * n - 2])
+            .filter(|&label| label > 0)
+            .collect(),
+        Style::OneHome => {
+            let home = rng.below(cells) as u32;
+            (1..=2 * n).map(|turn| turn * n + home).collect()
+        }
+        Style::Hundreds => (1..=2 * n).map(|step| step * 100).collect(),
+        Style::Greatest => (0..2 * n).map(|less| u32::MAX - less).chain(1..4).collect(),
+        Style::Sixteen if rng.once_in(2) => (1..=2 * n).collect(),
+        Style::Sixteen | Style::Large => {
+            let span = rng.pick(&[2 * n, 5 * n, 1_000_000, u32::MAX]);
+            (0..2 * n)
+                .map(|_| 1 + (rng.draw() % u64::from(span)) as u32)
+                .collect()
+        }
+    };
+    // Not many more labels than cells, so that take-outs and look-ups hit.
+    let keep = rng.within(cells, 2 * cells).min(pool.len());
+    for i in 0..keep {
+        let j = rng.within(i, pool.len() - 1);
+        pool.swap(i, j);
+    }
+    pool.truncate(keep);
+    let most_rounds = match style {
+        Style::Large => 30,
+        _ => 8,
+    };
+    Chapter {
+        pool,
+        cells,
+        most_workers,
+        most_rounds,
+    }
+}
+
+fn chapter(rng: &mut Rng, style: Style, sheet: &mut Sheet) {
+    let plan = plan(rng, style);
+    sheet.cells(plan.cells);
+    // Fill first, then anything.
+    shift(rng, &plan, 1, sheet);
+    for _ in 0..rng.within(1, 6) {
+        let kind = rng.pick(&[1, 1, 2, 2, 2, 3]);
+        shift(rng, &plan, kind, sheet);
+    }
+}
+
+/// A shift from its opening to its close, with mistakes that are refused.
+fn shift(rng: &mut Rng, plan: &Chapter, kind: u32, sheet: &mut Sheet) {
+    if rng.once_in(5) {
+        shut_mistake(rng, sheet);
+    }
+    let workers = if plan.most_workers == 16 && rng.once_in(2) {
+        16
+    } else {
+        rng.within(1, plan.most_workers)
+    };
+    sheet.open(kind, workers);
+    if rng.once_in(12) {
+        sheet.close();
+        return;
+    }
+    // The labels to order: those of the pool, or those in the table, or so
+    // few that several workers meet at one label.
+    let present: Vec<u32> = sheet.table.iter().copied().filter(|&l| l > 0).collect();
+    let labels = match rng.below(8) {
+        0 | 1 => (0..rng.within(1, 3))
+            .map(|_| rng.pick(&plan.pool))
+            .collect(),
+        2..=6 if kind != 1 && !present.is_empty() => present,
+        _ => plan.pool.clone(),
+    };
+    // A put-in shift has enough orders to use up the room now and then.
+    let rounds = match kind {
+        1 => rng
+            .within(1, plan.cells / workers + 1)
+            .min(plan.most_rounds),
+        _ => rng.within(1, 3),
+    };
+    for _ in 0..rounds {
+        for worker in 0..workers {
+            if !rng.once_in(6) {
+                sheet.order(worker, rng.pick(&labels));
+            }
+        }
+        match rng.below(4) {
+            0 => {}
+            1 => overtake(rng, &labels, sheet),
+            _ => deal(rng, &labels, sheet),
+        }
+        if rng.once_in(8) {
+            open_mistake(rng, sheet);
+        }
+        if !rng.once_in(5) {
+            sheet.run();
+        }
+        if rng.once_in(6) {
+            sheet.line("list");
+        }
+    }
+    if rng.once_in(6) {
+        sheet.close(); // refused if somebody works
+    }
+    sheet.run();
+    sheet.close();
+    if !rng.once_in(5) {
+        sheet.line("list");
+    }
+}
+
+/// Turns for workers at random, mostly busy ones.
+fn deal(rng: &mut Rng, labels: &[u32], sheet: &mut Sheet) {
+    let workers = sheet.phase.count;
+    for _ in 0..rng.within(0, 12 * workers.min(8)) {
+        let busy = sheet.busy();
+        if busy.is_empty() {
+            break;
+        }
+        if rng.once_in(12) {
+            sheet.turn(rng.below(workers));
+        } else {
+            let worker = rng.pick(&busy);
+            for _ in 0..rng.pick(&[1, 1, 1, 1, 2, 4]) {
+                sheet.turn(worker);
+            }
+        }
+        if rng.once_in(12) {
+            sheet.line("list");
+        }
+        if rng.once_in(25) {
+            open_mistake(rng, sheet);
+        }
+        if rng.once_in(15) {
+            sheet.order(rng.below(workers), rng.pick(labels));
+        }
+    }
+}
+
+/// One worker stands in the middle of its work while others do all of theirs,
+/// often with labels close by.
+fn overtake(rng: &mut Rng, labels: &[u32], sheet: &mut Sheet) {
+    let workers = sheet.phase.count;
+    let slow = rng.below(workers);
+    let late = rng.once_in(2);
+    for _ in 0..rng.within(1, 12) {
+        match sheet.phase.workers[slow] {
+            Activity::Idle => break,
+            Activity::Seeking { taken: Some(_), .. } | Activity::Replacing { .. } if late => break,
+            _ => sheet.turn(slow),
+        }
+    }
+    for _ in 0..rng.within(1, 2 * workers) {
+        let other = rng.below(workers);
+        if other == slow {
+            continue;
+        }
+        if sheet.phase.workers[other] == Activity::Idle {
+            let label = match sheet.phase.workers[slow] {
+                Activity::Seeking { hole, .. } if !rng.once_in(4) => {
+                    sheet.table[(hole + rng.below(4)) % sheet.table.len()]
+                }
+                _ => rng.pick(labels),
+            };
+            sheet.order(other, label);
+        }
+        for _ in 0..rng.pick(&[3, 10, 40, 40, 40]) {
+            if sheet.phase.workers[other] != Activity::Idle {
+                sheet.turn(other);
+            }
+        }
+    }
+    for _ in 0..rng.within(1, 30) {
+        if sheet.phase.workers[slow] != Activity::Idle {
+            sheet.turn(slow);
+        }
+    }
+    sheet.line("list");
+}
+
+/// A line that an open shift refuses.
+fn open_mistake(rng: &mut Rng, sheet: &mut Sheet) {
+    let workers = sheet.phase.count;
+    let outside = rng.pick(&[workers, workers + 1, 16, 17, 4294967295]);
+    let inside = rng.below(workers);
+    match rng.below(6) {
+        0 => sheet.order(outside, rng.below(9) as u32),
+        1 => sheet.order(inside, 0),
+        2 => {
+            // The second one finds the worker busy.
+            sheet.order(inside, rng.within(1, 9) as u32);
+            sheet.order(inside, rng.below(9) as u32);
+        }
+        3 => sheet.turn(outside),
+        4 if !sheet.phase.all_idle() => sheet.close(),
+        _ => sheet.order(outside, 0),
+    }
+}
+
+/// A line that a shut shift refuses.
+fn shut_mistake(rng: &mut Rng, sheet: &mut Sheet) {
+    let line = match rng.below(12) {
+        0 => "run".to_string(),
+        1 => "close".to_string(),
+        2 => format!("turn\t{}", rng.pick(&[0, 1, 16, u32::MAX])),
+        3 => format!("order\t{}\t{}", rng.below(20), rng.below(20)),
+        4 => format!("open\t{}\t1", rng.pick(&[0, 4, 5, u32::MAX])),
+        5 => format!(
+            "open\t{}\t{}",
+            rng.below(5),
+            rng.pick(&[0, 17, 18, u32::MAX])
+        ),
+        6 | 7 => format!(
+            "cells\t{}",
+            rng.pick(&[0, 1, 4097, 8192, 8193, 65536, u32::MAX])
+        ),
+        8 if rng.once_in(6) => format!("order\t{}", "7".repeat(rng.within(1, 70_000))),
+        // `order` first is refused here, readable or not.
+        _ => rng
+            .pick(&[
+                "order",
+                "order\t",
+                "order\t\t",
+                "order\t\t\t\t",
+                "order\t0",
+                "order\t0\t01",
+                "order\t00\t1",
+                "order\t0\t1\t2",
+                "order\t0\t1\r",
+                "order\t\0",
+                "order\tx\ty",
+                "order\t0\t4294967296",
+                "order\t0\t99999999999999999999999999",
+                "order\t-1\t+1",
+                "order\t 0\t1",
+            ])
+            .to_string(),
+    };
+    sheet.line(&line);
+}
+
+/// Numbers that aren't readable.
+const BAD_NUMBERS: [&str; 18] = [
+    "",
+    "00",
+    "01",
+    "007",
+    "+1",
+    "-1",
+    " 1",
+    "1 ",
+    "0x1",
+    "1e1",
+    "1.0",
+    "x",
+    "4294967296",
+    "4294967297",
+    "42949672950",
+    "18446744073709551616",
+    "18446744073709551617",
+    "340282366920938463463374607431768211457",
+];
+
+/// Damages a sheet in one place, mostly late.
+fn damage(rng: &mut Rng, text: &mut Vec<u8>) {
+    if rng.once_in(12) {
+        // The whole sheet breaks off.
+        text.truncate(rng.below(text.len() + 1));
+        return;
+    }
+    let mut lines: Vec<Vec<u8>> = text
+        .split_inclusive(|&byte| byte == b'\n')
+        .map(|line| line.strip_suffix(b"\n").unwrap_or(line).to_vec())
+        .collect();
+    let count = lines.len();
+    let at = if rng.once_in(3) {
+        rng.below(count)
+    } else {
+        rng.within(count - 1 - count / 4, count - 1)
+    };
+    match rng.below(12) {
+        0 => {
+            let new = whole_line(rng);
+            lines.insert(at, new);
+        }
+        1 => {
+            let new = long_line(rng);
+            lines.insert(at, new);
+        }
+        2 => {
+            // In an open shift this ends the replay.
+            let new = rng.pick(&["cells\t5", "cells\t1", "open\t1\t1", "open\t9\t99", "cells"]);
+            lines.insert(at, new.into());
+        }
+        _ => {
+            damage_line(rng, &mut lines[at]);
+        }
+    }
+    text.clear();
+    for line in lines {
+        text.extend_from_slice(&line);
+        text.push(b'\n');
+    }
+}
+
+fn whole_line(rng: &mut Rng) -> Vec<u8> {
+    rng.pick(&[
+        "",
+        "\t",
+        "\t\t\t",
+        " ",
+        "\r",
+        "\0",
+        "ru",
+        "runs",
+        "Run",
+        "RUN",
+        "run\t",
+        "run\t0",
+        "run\r",
+        " run",
+        "run ",
+        "\trun",
+        "list\t",
+        "list\t1",
+        "listt",
+        "close\t",
+        "close\t0",
+        "clos",
+        "turn",
+        "turn\t",
+        "turn\t0\t",
+        "turn\t0\t0",
+        "turn 0",
+        "cells",
+        "cells\t",
+        "cells\t5\t5",
+        "open",
+        "open\t1",
+        "open\t1\t",
+        "open\t1\t1\t",
+        "open\t1\t1\t1",
+        "order\0",
+        "order ",
+        "orders\t0\t1",
+        "Order\t0\t1",
+        "order 0 1",
+        "ok",
+        "# note",
+        "\u{e9}",
+    ])
+    .into()
+}
+
+fn long_line(rng: &mut Rng) -> Vec<u8> {
+    let length = rng.pick(&[255, 256, 4095, 4096, 4097, 65_535, 65_536, 65_537, 100_000]);
+    let front = rng.pick(&[
+        "",
+        "turn\t",
+        "order\t0\t",
+        "order\t",
+        "cells\t",
+        "run",
+        "list\t",
+    ]);
+    let fill = rng.pick(&[b'0', b'1', b'9', b'\t', b'a', b' ', 0]);
+    let mut line = front.as_bytes().to_vec();
+    line.resize(front.len() + length, fill);
+    line
+}
+
+fn damage_line(rng: &mut Rng, line: &mut Vec<u8>) {
+    let tabs: Vec<usize> = (0..line.len()).filter(|&i| line[i] == b'\t').collect();
+    let place = rng.below(line.len() + 1);
+    match rng.below(11) {
+        0 => line.truncate(place),
+        1 if !tabs.is_empty() => line.insert(rng.pick(&tabs), b'\t'),
+        2 if !tabs.is_empty() => line.insert(rng.pick(&tabs) + 1, b'0'),
+        3 if !tabs.is_empty() => {
+            // Another number in the last field.
+            line.truncate(tabs[tabs.len() - 1] + 1);
+            line.extend_from_slice(rng.pick(&BAD_NUMBERS).as_bytes());
+        }
+        4 if !tabs.is_empty() => {
+            // A blank for a tab.
+            line[rng.pick(&tabs)] = b' ';
+        }
+        5 => line.insert(place, 0),
+        6 => line.push(b'\r'),
+        7 => line.insert(place, b'\r'),
+        8 => line.extend_from_slice(rng.pick(&["\t", "\t0", "\t\t", " ", "\0"]).as_bytes()),
+        9 => line.insert(0, rng.pick(b"\t 0\0")),
+        _ => {
+            let byte = rng.draw() as u8;
+            if place < line.len() {
+                line[place] = byte;
+            } else {
+                line.push(byte);
+            }
+        }
+    }
+}

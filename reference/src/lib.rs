@@ -1,0 +1,26 @@
+//! Reference implementation of the gateway's label table, written from
+//! document 01 alone. It shares no code with the product.
+#![forbid(unsafe_code)]
+
+pub mod generate;
+pub mod layout;
+pub mod listing;
+pub mod phase;
+pub mod sheet;
+
+/// The refusal numbers of document 01.
+pub mod refusal {
+    pub const SIZE: u8 = 1;
+    pub const CREW: u8 = 2;
+    pub const KIND: u8 = 3;
+    pub const UNSOUND: u8 = 4;
+    pub const OTHER_TABLE: u8 = 5;
+    pub const NO_WORKER: u8 = 6;
+    pub const BLANK: u8 = 7;
+    pub const BUSY: u8 = 8;
+    pub const FULL: u8 = 9;
+    pub const WORKING: u8 = 10;
+    pub const SHUT: u8 = 11;
+    pub const SHORT_LIST: u8 = 12;
+    pub const SPOILT: u8 = 13;
+}

@@ -1,0 +1,399 @@
+//! A shift (phase): its record, and the calls open, order, turn and close.
+
+use crate::layout::{before, home, is_sound, next, way_passes, EMPTY};
+use crate::refusal;
+
+pub const PUT_IN: u32 = 1;
+pub const TAKE_OUT: u32 = 2;
+pub const LOOK_UP: u32 = 3;
+
+/// What a worker is doing.
+#[derive(Clone, Copy, Debug, PartialEq, Eq, Hash)]
+pub enum Activity {
+    Idle,
+    /// Walking on from the home; `cell` is read next.
+    ReadingOn {
+        label: u32,
+        cell: usize,
+    },
+    /// About to replace the content of `cell`.
+    /// Put in: `found` was seen in `cell` itself (`from` is `cell`).
+    /// Take out: `found` was seen in `from` and is to replace `label`.
+    Replacing {
+        label: u32,
+        cell: usize,
+        found: u32,
+        from: usize,
+    },
+    /// Walking back towards the home; `cell` is read next.
+    WalkingBack {
+        label: u32,
+        cell: usize,
+    },
+    /// Seeking what is to replace `label` in cell `hole`; `cell` is read next.
+    /// Forward while nothing is taken, then back. `taken` is a content and the
+    /// cell where it was seen.
+    Seeking {
+        label: u32,
+        hole: usize,
+        cell: usize,
+        taken: Option<(u32, usize)>,
+    },
+}
+
+use Activity::{Idle, ReadingOn, Replacing, Seeking, WalkingBack};
+
+/// The answer of a turn.
+#[derive(Clone, Copy, Debug, PartialEq, Eq, Hash)]
+pub enum Answer {
+    WentOn,
+    Finished,
+    Yes,
+    No,
+    Idle,
+}
+
+/// The shift record. The fields are open so that tests can forge records.
+#[derive(Clone, Debug, PartialEq, Eq, Hash)]
+pub struct Phase {
+    pub kind: u32,
+    pub length: usize,
+    pub count: usize,
+    pub orders_left: usize,
+    pub open: bool,
+    pub workers: [Activity; Phase::MAX_WORKERS],
+}
+
+impl Phase {
+    pub const MIN_CELLS: usize = 2;
+    pub const MAX_CELLS: usize = 8192;
+    pub const MIN_WORKERS: usize = 1;
+    pub const MAX_WORKERS: usize = 16;
+
+    /// The shut record that stands for a refused opening.
+    pub fn shut() -> Phase {
+        Phase {
+            kind: LOOK_UP,
+            length: 2,
+            count: 1,
+            orders_left: 0,
+            open: false,
+            workers: [Idle; Phase::MAX_WORKERS],
+        }
+    }
+
+    /// Opens a shift on the table.
+    pub fn open(kind: u64, count: u64, table: &[u32]) -> Result<Phase, u8> {
+        if !is_length(table.len()) {
+            return Err(refusal::SIZE);
+        }
+        if !(Phase::MIN_WORKERS as u64..=Phase::MAX_WORKERS as u64).contains(&count) {
+            return Err(refusal::CREW);
+        }
+        if !(1..=3).contains(&kind) {
+            return Err(refusal::KIND);
+        }
+        if !is_sound(table) {
+            return Err(refusal::UNSOUND);
+        }
+        let kind = kind as u32;
+        let orders_left = if kind == PUT_IN {
+            table.iter().filter(|&&cell| cell == EMPTY).count() - 1
+        } else {
+            0
+        };
+        Ok(Phase {
+            kind,
+            length: table.len(),
+            count: count as usize,
+            orders_left,
+            open: true,
+            workers: [Idle; Phase::MAX_WORKERS],
+        })
+    }
+
+    /// Gives an idle worker a label.
+    pub fn order(&mut self, worker: u64, label: u32) -> Result<(), u8> {
+        if self.is_spoilt() {
+            return Err(refusal::SPOILT);
+        }
+        if !self.open {
+            return Err(refusal::SHUT);
+        }
+        if worker >= self.count as u64 {
+            return Err(refusal::NO_WORKER);
+        }
+        let activity = &mut self.workers[worker as usize];
+        if *activity != Idle {
+            return Err(refusal::BUSY);
+        }
+        if label == EMPTY {
+            return Err(refusal::BLANK);
+        }
+        if self.kind == PUT_IN {
+            if self.orders_left == 0 {
+                return Err(refusal::FULL);
+            }
+            self.orders_left -= 1;
+        }
+        *activity = ReadingOn {
+            label,
+            cell: home(label, self.length),
+        };
+        Ok(())
+    }
+
+    /// Moves one worker by one turn.
+    pub fn turn(&mut self, table: &mut [u32], worker: u64) -> Result<Answer, u8> {
+        if self.is_spoilt() {
+            return Err(refusal::SPOILT);
+        }
+        if !self.open {
+            return Err(refusal::SHUT);
+        }
+        if table.len() != self.length {
+            return Err(refusal::OTHER_TABLE);
+        }
+        if worker >= self.count as u64 {
+            return Err(refusal::NO_WORKER);
+        }
+        let activity = &mut self.workers[worker as usize];
+        Ok(match self.kind {
+            PUT_IN => put_in(activity, table),
+            TAKE_OUT => take_out(activity, table),
+            _ => look_up(activity, table),
+        })
+    }
+
+    /// Ends the shift.
+    pub fn close(&mut self) -> Result<(), u8> {
+        if self.is_spoilt() {
+            return Err(refusal::SPOILT);
+        }
+        if !self.open {
+            return Err(refusal::SHUT);
+        }
+        if !self.all_idle() {
+            return Err(refusal::WORKING);
+        }
+        self.open = false;
+        Ok(())
+    }
+
+    /// Does the record break a bound?
+    pub fn is_spoilt(&self) -> bool {
+        if !(PUT_IN..=LOOK_UP).contains(&self.kind)
+            || !is_length(self.length)
+            || !(Phase::MIN_WORKERS..=Phase::MAX_WORKERS).contains(&self.count)
+            || self.orders_left >= self.length
+        {
+            return true;
+        }
+        let (crew, rest) = self.workers.split_at(self.count);
+        crew.iter()
+            .any(|activity| activity.breaks_bound(self.kind, self.length))
+            || rest.iter().any(|activity| *activity != Idle)
+    }
+
+    /// The workers of the shift.
+    pub fn crew(&self) -> &[Activity] {
+        &self.workers[..self.count]
+    }
+
+    /// Has no worker an unfinished order?
+    pub fn all_idle(&self) -> bool {
+        self.crew().iter().all(|activity| *activity == Idle)
+    }
+}
+
+impl Activity {
+    /// Has the activity a number out of bounds, or does the kind lack it?
+    fn breaks_bound(&self, kind: u32, length: usize) -> bool {
+        match *self {
+            Idle => false,
+            ReadingOn { label, cell } => label == EMPTY || cell >= length,
+            Replacing {
+                label, cell, from, ..
+            } => kind == LOOK_UP || label == EMPTY || cell >= length || from >= length,
+            WalkingBack { label, cell } => kind != TAKE_OUT || label == EMPTY || cell >= length,
+            Seeking {
+                label,
+                hole,
+                cell,
+                taken,
+            } => {
+                kind != TAKE_OUT
+                    || label == EMPTY
+                    || hole >= length
+                    || cell >= length
+                    || taken.is_some_and(|(_, from)| from >= length)
+            }
+        }
+    }
+}
+
+fn is_length(n: usize) -> bool {
+    (Phase::MIN_CELLS..=Phase::MAX_CELLS).contains(&n)
+}
+
+fn put_in(activity: &mut Activity, table: &mut [u32]) -> Answer {
+    let n = table.len();
+    match *activity {
+        Idle => return Answer::Idle,
+        ReadingOn { label, cell } => {
+            let content = table[cell];
+            if content > label {
+                *activity = ReadingOn {
+                    label,
+                    cell: next(cell, n),
+                };
+            } else if content == label {
+                *activity = Idle;
+                return Answer::Finished;
+            } else {
+                *activity = Replacing {
+                    label,
+                    cell,
+                    found: content,
+                    from: cell,
+                };
+            }
+        }
+        Replacing {
+            label, cell, found, ..
+        } => {
+            if table[cell] != found {
+                // Failed: the same cell again.
+                *activity = ReadingOn { label, cell };
+            } else {
+                table[cell] = label;
+                if found == EMPTY {
+                    *activity = Idle;
+                    return Answer::Finished;
+                }
+                // Carry the smaller label on.
+                *activity = ReadingOn {
+                    label: found,
+                    cell: next(cell, n),
+                };
+            }
+        }
+        WalkingBack { .. } | Seeking { .. } => unreachable!("the record is spoilt"),
+    }
+    Answer::WentOn
+}
+
+fn look_up(activity: &mut Activity, table: &[u32]) -> Answer {
+    match *activity {
+        Idle => Answer::Idle,
+        ReadingOn { label, cell } => {
+            let content = table[cell];
+            if content > label {
+                *activity = ReadingOn {
+                    label,
+                    cell: next(cell, table.len()),
+                };
+                return Answer::WentOn;
+            }
+            *activity = Idle;
+            if content == label {
+                Answer::Yes
+            } else {
+                Answer::No
+            }
+        }
+        Replacing { .. } | WalkingBack { .. } | Seeking { .. } => {
+            unreachable!("the record is spoilt")
+        }
+    }
+}
+
+fn take_out(activity: &mut Activity, table: &mut [u32]) -> Answer {
+    let n = table.len();
+    match *activity {
+        Idle => return Answer::Idle,
+        ReadingOn { label, cell } => {
+            *activity = if table[cell] > label {
+                ReadingOn {
+                    label,
+                    cell: next(cell, n),
+                }
+            } else {
+                // That cell first, and read anew.
+                WalkingBack { label, cell }
+            };
+        }
+        WalkingBack { label, cell } => {
+            if table[cell] == label {
+                *activity = Seeking {
+                    label,
+                    hole: cell,
+                    cell: next(cell, n),
+                    taken: None,
+                };
+            } else if cell == home(label, n) {
+                *activity = Idle;
+                return Answer::Finished;
+            } else {
+                *activity = WalkingBack {
+                    label,
+                    cell: before(cell, n),
+                };
+            }
+        }
+        Seeking {
+            label,
+            hole,
+            cell,
+            taken,
+        } => {
+            let content = table[cell];
+            let fits = content == EMPTY || way_passes(content, cell, hole, n);
+            let taken = if fits { Some((content, cell)) } else { taken };
+            *activity = match taken {
+                None => Seeking {
+                    label,
+                    hole,
+                    cell: next(cell, n),
+                    taken,
+                },
+                // Back at the cell after the hole: nothing lies between.
+                Some((found, from)) if cell == next(hole, n) => Replacing {
+                    label,
+                    cell: hole,
+                    found,
+                    from,
+                },
+                Some(_) => Seeking {
+                    label,
+                    hole,
+                    cell: before(cell, n),
+                    taken,
+                },
+            };
+        }
+        Replacing {
+            label,
+            cell,
+            found,
+            from,
+        } => {
+            if table[cell] != label {
+                // Failed: look at the same cell again.
+                *activity = WalkingBack { label, cell };
+            } else {
+                table[cell] = found;
+                if found == EMPTY {
+                    *activity = Idle;
+                    return Answer::Finished;
+                }
+                // Now take out the copy that was left behind.
+                *activity = WalkingBack {
+                    label: found,
+                    cell: from,
+                };
+            }
+        }
+    }
+    Answer::WentOn
+}

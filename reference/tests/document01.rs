@@ -1,0 +1,644 @@
+//! The sheet and the tables of document 01.
+
+use std::collections::BTreeSet;
+
+use reference::layout::{is_sound, layout};
+use reference::listing::{check, count, list, list_front, taken_word};
+use reference::phase::{Activity, Answer, Phase, LOOK_UP, PUT_IN, TAKE_OUT};
+use reference::sheet::replay_bytes;
+
+fn set(labels: &[u32]) -> BTreeSet<u32> {
+    labels.iter().copied().collect()
+}
+
+/// Opens a shift, gives each order to its worker, runs it and closes.
+fn shift(kind: u32, table: &mut [u32], orders: &[u32]) -> Vec<Answer> {
+    let mut phase = Phase::open(kind.into(), orders.len() as u64, table).unwrap();
+    for (worker, &label) in orders.iter().enumerate() {
+        phase.order(worker as u64, label).unwrap();
+    }
+    let mut answers = vec![Answer::Idle; orders.len()];
+    while !phase.all_idle() {
+        for (worker, finish) in answers.iter_mut().enumerate() {
+            let answer = phase.turn(table, worker as u64).unwrap();
+            if !matches!(answer, Answer::WentOn | Answer::Idle) {
+                *finish = answer;
+            }
+        }
+    }
+    phase.close().unwrap();
+    answers
+}
+
+/// Spaces stand for tabs.
+fn replay(sheet: &str) -> String {
+    let sheet = sheet.replace(' ', "\t");
+    String::from_utf8(replay_bytes(sheet.as_bytes()))
+        .unwrap()
+        .replace('\t', " ")
+}
+
+const SHEET: &str = "\
+cells 5
+open 1 2
+order 0 3
+order 1 8
+run
+order 0 13
+order 1 4
+run
+close
+list
+";
+
+const PRINTED: &str = "\
+1 ok
+2 ok
+3 ok
+4 ok
+5 done done
+6 ok
+7 ok
+8 done done
+9 ok
+10 4 4 3 13 8
+";
+
+#[test]
+fn the_sheet() {
+    assert_eq!(replay(SHEET), PRINTED);
+    // Also without the last newline.
+    assert_eq!(replay(SHEET.trim_end()), PRINTED);
+}
+
+#[test]
+fn five_cells() {
+    let table = layout(5, &set(&[3, 4, 8, 13]));
+    assert_eq!(table, [4, 3, 0, 13, 8]);
+    assert!(is_sound(&table));
+    assert_eq!(taken_word(&table, 0), 27);
+    assert_eq!(taken_word(&table, 1), 0);
+}
+
+#[test]
+fn without_8() {
+    let mut table = [4, 3, 0, 13, 8];
+    assert_eq!(shift(TAKE_OUT, &mut table, &[8]), [Answer::Finished]);
+    assert_eq!(table, [3, 0, 0, 13, 4]);
+    assert_eq!(layout(5, &set(&[3, 4, 13])), table);
+}
+
+#[test]
+fn thirteen_by_two_workers() {
+    let mut table = [4, 3, 0, 13, 8];
+    shift(TAKE_OUT, &mut table, &[13, 13]);
+    assert_eq!(table, [3, 0, 0, 8, 4]);
+}
+
+#[test]
+fn eight_by_two_workers() {
+    let mut table = [0; 5];
+    shift(PUT_IN, &mut table, &[8, 8]);
+    assert_eq!(table, [0, 0, 0, 8, 0]);
+}
+
+#[test]
+fn two_cells() {
+    let table = layout(2, &set(&[7]));
+    assert_eq!(table, [0, 7]);
+    let mut phase = Phase::open(1, 1, &table).unwrap();
+    assert_eq!(phase.order(0, 7), Err(9));
+    assert_eq!(phase.order(0, 1), Err(9));
+}
+
+#[test]
+fn greatest_label() {
+    assert_eq!(layout(5, &set(&[4294967295])), [4294967295, 0, 0, 0, 0]);
+}
+
+#[test]
+fn unsound_tables() {
+    for table in [
+        [0, 0, 0, 8, 13],
+        [0, 0, 0, 3, 3],
+        [6, 0, 0, 0, 0],
+        [5, 6, 7, 8, 9],
+    ] {
+        assert!(!is_sound(&table));
+        assert_eq!(check(&table), Err(4));
+        assert_eq!(count(&table), Err(4));
+        let mut lent = [77; 1];
+        assert_eq!(list(&table, &mut lent), Err(4));
+        assert!(list_front(&table, &mut lent).is_empty());
+        assert_eq!(lent, [77]);
+        assert_eq!(Phase::open(1, 1, &table), Err(4));
+    }
+}
+
+#[test]
+fn lengths() {
+    for (n, answer) in [
+        (0, Err(1)),
+        (1, Err(1)),
+        (2, Ok(())),
+        (8192, Ok(())),
+        (8193, Err(1)),
+    ] {
+        let table = vec![0; n];
+        for kind in 1..=3 {
+            assert_eq!(Phase::open(kind, 1, &table).map(|_| ()), answer);
+        }
+        assert_eq!(check(&table), answer);
+        assert_eq!(count(&table), answer.map(|()| 0));
+        assert_eq!(list(&table, &mut []), answer.map(|()| 0));
+    }
+}
+
+#[test]
+fn worker_counts() {
+    for kind in 1..=3 {
+        for (count, answer) in [
+            (0, Err(2)),
+            (1, Ok(())),
+            (16, Ok(())),
+            (17, Err(2)),
+            (u64::MAX, Err(2)),
+        ] {
+            assert_eq!(Phase::open(kind, count, &[0; 5]).map(|_| ()), answer);
+        }
+    }
+}
+
+#[test]
+fn kinds() {
+    for kind in [0, 4, 1 << 32 | 1, u64::MAX] {
+        assert_eq!(Phase::open(kind, 1, &[0; 5]), Err(3));
+    }
+}
+
+#[test]
+fn openings_refuse_in_order() {
+    assert_eq!(Phase::open(0, 0, &[1]), Err(1));
+    assert_eq!(Phase::open(0, 0, &[1, 1]), Err(2));
+    assert_eq!(Phase::open(0, 1, &[1, 1]), Err(3));
+    assert_eq!(Phase::open(1, 1, &[1, 1]), Err(4));
+}
+
+#[test]
+fn a_shift_without_orders_keeps_its_table() {
+    for kind in 1..=3 {
+        let mut table = [4, 3, 0, 13, 8];
+        let mut phase = Phase::open(kind, 16, &table).unwrap();
+        for worker in 0..16 {
+            assert_eq!(phase.turn(&mut table, worker), Ok(Answer::Idle));
+        }
+        assert_eq!(phase.close(), Ok(()));
+        assert_eq!(table, [4, 3, 0, 13, 8]);
+        assert_eq!(phase.close(), Err(11));
+    }
+    assert_eq!(
+        replay("cells 5\nopen 1 16\nclose\nlist\n"),
+        "1 ok\n2 ok\n3 ok\n4 0\n"
+    );
+}
+
+#[test]
+fn look_up_answers() {
+    let mut table = [4, 3, 0, 13, 8];
+    let answers = shift(LOOK_UP, &mut table, &[3, 4, 8, 13, 1, 2, 18, 4294967295]);
+    use Answer::{No, Yes};
+    assert_eq!(answers, [Yes, Yes, Yes, Yes, No, No, No, No]);
+    assert_eq!(table, [4, 3, 0, 13, 8]);
+}
+
+#[test]
+fn order_refuses_in_order() {
+    let mut phase = Phase::open(1, 2, &[0, 0, 0]).unwrap();
+    assert_eq!(phase.orders_left, 2);
+    assert_eq!(phase.order(2, 0), Err(6));
+    assert_eq!(phase.order(1 << 32, 1), Err(6));
+    assert_eq!(phase.order(0, 0), Err(7));
+    assert_eq!(phase.order(0, 5), Ok(()));
+    assert_eq!(phase.order(0, 0), Err(8));
+    assert_eq!(phase.order(1, 5), Ok(()));
+    assert_eq!(phase.order(1, 5), Err(8));
+    assert_eq!(phase.close(), Err(10));
+    let mut table = [0, 0, 0];
+    while !phase.all_idle() {
+        phase.turn(&mut table, 0).unwrap();
+        phase.turn(&mut table, 1).unwrap();
+    }
+    assert_eq!(phase.order(1, 0), Err(7));
+    assert_eq!(phase.order(1, 5), Err(9));
+    assert_eq!(phase.close(), Ok(()));
+    assert_eq!(phase.order(2, 0), Err(11));
+    phase.length = 1;
+    assert_eq!(phase.order(2, 0), Err(13));
+}
+
+#[test]
+fn turn_refuses_in_order() {
+    let mut phase = Phase::open(3, 2, &[0, 0, 0]).unwrap();
+    assert_eq!(phase.turn(&mut [0, 0], 2), Err(5));
+    assert_eq!(phase.turn(&mut [0, 0, 0], 2), Err(6));
+    assert_eq!(phase.turn(&mut [0, 0, 0], 1 << 32), Err(6));
+    phase.close().unwrap();
+    assert_eq!(phase.turn(&mut [0, 0], 2), Err(11));
+    phase.count = 0;
+    assert_eq!(phase.turn(&mut [0, 0], 2), Err(13));
+    assert_eq!(phase.close(), Err(13));
+}
+
+#[test]
+fn spoilt_records() {
+    let sound = Phase::open(2, 2, &[0; 5]).unwrap();
+    assert!(!sound.is_spoilt());
+    assert!(!Phase::shut().is_spoilt());
+    let spoilt = |change: &dyn Fn(&mut Phase)| {
+        let mut phase = sound.clone();
+        change(&mut phase);
+        phase.is_spoilt()
+    };
+    assert!(spoilt(&|p| p.kind = 0));
+    assert!(spoilt(&|p| p.kind = 4));
+    assert!(spoilt(&|p| p.length = 1));
+    assert!(spoilt(&|p| p.length = 8193));
+    assert!(spoilt(&|p| p.count = 0));
+    assert!(spoilt(&|p| p.count = 17));
+    assert!(!spoilt(&|p| p.orders_left = 4));
+    assert!(spoilt(&|p| p.orders_left = 5));
+
+    let with = |kind: u32, worker: usize, activity: Activity| {
+        spoilt(&|p| {
+            p.kind = kind;
+            p.workers[worker] = activity;
+        })
+    };
+    let activities = |label: u32, cell: usize| {
+        [
+            Activity::ReadingOn { label, cell },
+            Activity::Replacing {
+                label,
+                cell,
+                found: 0,
+                from: 0,
+            },
+            Activity::WalkingBack { label, cell },
+            Activity::Seeking {
+                label,
+                hole: 0,
+                cell,
+                taken: None,
+            },
+        ]
+    };
+    for (kind, lacks) in [
+        (PUT_IN, [false, false, true, true]),
+        (TAKE_OUT, [false; 4]),
+        (LOOK_UP, [false, true, true, true]),
+    ] {
+        for (activity, lacks) in activities(1, 4).into_iter().zip(lacks) {
+            assert_eq!(with(kind, 1, activity), lacks);
+            // Past the count nobody works.
+            assert!(with(kind, 2, activity));
+            assert!(with(kind, 15, activity));
+        }
+        for activity in activities(0, 4).into_iter().chain(activities(1, 5)) {
+            assert!(with(kind, 0, activity));
+        }
+    }
+    let replacing = |from| Activity::Replacing {
+        label: 1,
+        cell: 0,
+        found: 0,
+        from,
+    };
+    let seeking = |hole, from| Activity::Seeking {
+        label: 1,
+        hole,
+        cell: 0,
+        taken: Some((0, from)),
+    };
+    assert!(!with(TAKE_OUT, 0, replacing(4)));
+    assert!(with(TAKE_OUT, 0, replacing(5)));
+    assert!(!with(TAKE_OUT, 0, seeking(4, 4)));
+    assert!(with(TAKE_OUT, 0, seeking(5, 4)));
+    assert!(with(TAKE_OUT, 0, seeking(4, 5)));
+}
+
+#[test]
+fn listing() {
+    let table = [4, 3, 0, 13, 8];
+    assert_eq!(check(&table), Ok(()));
+    assert_eq!(count(&table), Ok(4));
+    let mut short = [77; 3];
+    assert_eq!(list(&table, &mut short), Err(12));
+    assert!(list_front(&table, &mut short).is_empty());
+    assert_eq!(short, [77; 3]);
+    let mut lent = [77; 6];
+    assert_eq!(list(&table, &mut lent), Ok(4));
+    assert_eq!(lent, [4, 3, 13, 8, 77, 77]);
+    let mut lent = [77; 6];
+    assert_eq!(list_front(&table, &mut lent), [4, 3, 13, 8]);
+    assert_eq!(lent, [4, 3, 13, 8, 77, 77]);
+}
+
+#[test]
+fn taken_words_place_the_groups() {
+    let labels: BTreeSet<u32> = (1..150).map(|i| i * i * 7 + 5).collect();
+    let table = layout(200, &labels);
+    let words: Vec<u64> = (0..4).map(|group| taken_word(&table, group)).collect();
+    assert_eq!(words[3] >> 8, 0);
+    let ones = |words: &[u64]| words.iter().map(|w| w.count_ones() as usize).sum::<usize>();
+    assert_eq!(count(&table), Ok(ones(&words)));
+    // The groups backwards give the same list.
+    let mut by_groups = vec![0; labels.len()];
+    for group in (0..4).rev() {
+        let mut place = ones(&words[..group]);
+        for (bit, &cell) in table[group * 64..].iter().take(64).enumerate() {
+            if words[group] >> bit & 1 == 1 {
+                by_groups[place] = cell;
+                place += 1;
+            }
+        }
+    }
+    let mut lent = vec![0; labels.len()];
+    list(&table, &mut lent).unwrap();
+    assert_eq!(lent, by_groups);
+}
+
+/// The words of a put-in, taken turn by turn.
+#[test]
+fn turns_on_the_sheet() {
+    assert_eq!(
+        replay(
+            "cells 5\nopen 1 2\norder 0 3\norder 1 8\nturn 0\nturn 1\nturn 1\nturn 0\nturn 0\n\
+             turn 0\nturn 0\nturn 0\nturn 0\nclose\nlist\n"
+        ),
+        "1 ok\n2 ok\n3 ok\n4 ok\n5 on\n6 on\n7 done\n8 on\n9 on\n\
+         10 on\n11 done\n12 idle\n13 idle\n14 ok\n15 2 8 3\n"
+    );
+}
+
+/// One worker takes 8 out of [4, 3, 0, 13, 8], each turn by hand.
+#[test]
+fn a_take_out_by_hand() {
+    use Activity::*;
+    let mut table = [4, 3, 0, 13, 8];
+    let mut phase = Phase::open(2, 1, &table).unwrap();
+    phase.order(0, 8).unwrap();
+    let steps = [
+        // Home 3 holds 13; cell 4 holds 8.
+        (ReadingOn { label: 8, cell: 4 }, [4, 3, 0, 13, 8]),
+        (WalkingBack { label: 8, cell: 4 }, [4, 3, 0, 13, 8]),
+        (
+            Seeking {
+                label: 8,
+                hole: 4,
+                cell: 0,
+                taken: None,
+            },
+            [4, 3, 0, 13, 8],
+        ),
+        // The way of 4 in cell 0 is cell 4.
+        (
+            Replacing {
+                label: 8,
+                cell: 4,
+                found: 4,
+                from: 0,
+            },
+            [4, 3, 0, 13, 8],
+        ),
+        (WalkingBack { label: 4, cell: 0 }, [4, 3, 0, 13, 4]),
+        (
+            Seeking {
+                label: 4,
+                hole: 0,
+                cell: 1,
+                taken: None,
+            },
+            [4, 3, 0, 13, 4],
+        ),
+        (
+            Replacing {
+                label: 4,
+                cell: 0,
+                found: 3,
+                from: 1,
+            },
+            [4, 3, 0, 13, 4],
+        ),
+        (WalkingBack { label: 3, cell: 1 }, [3, 3, 0, 13, 4]),
+        (
+            Seeking {
+                label: 3,
+                hole: 1,
+                cell: 2,
+                taken: None,
+            },
+            [3, 3, 0, 13, 4],
+        ),
+        (
+            Replacing {
+                label: 3,
+                cell: 1,
+                found: 0,
+                from: 2,
+            },
+            [3, 3, 0, 13, 4],
+        ),
+    ];
+    for (activity, cells) in steps {
+        assert_eq!(phase.turn(&mut table, 0), Ok(Answer::WentOn));
+        assert_eq!(phase.workers[0], activity);
+        assert_eq!(table, cells);
+    }
+    assert_eq!(phase.turn(&mut table, 0), Ok(Answer::Finished));
+    assert_eq!(table, [3, 0, 0, 13, 4]);
+}
+
+/// Worker 0 has seen 5 in cell 2 as what replaces 20, then others work.
+fn seeking_back() -> (Phase, [u32; 5]) {
+    let mut table = [20, 16, 5, 0, 0];
+    let mut phase = Phase::open(2, 3, &table).unwrap();
+    phase.order(0, 20).unwrap();
+    for _ in 0..4 {
+        phase.turn(&mut table, 0).unwrap();
+    }
+    let seeking = Activity::Seeking {
+        label: 20,
+        hole: 0,
+        cell: 1,
+        taken: Some((5, 2)),
+    };
+    assert_eq!(phase.workers[0], seeking);
+    phase.order(1, 16).unwrap();
+    while phase.turn(&mut table, 1).unwrap() == Answer::WentOn {}
+    assert_eq!(table, [20, 5, 0, 0, 0]);
+    (phase, table)
+}
+
+#[test]
+fn a_nearer_label_is_taken() {
+    let (mut phase, mut table) = seeking_back();
+    phase.turn(&mut table, 0).unwrap();
+    let replacing = Activity::Replacing {
+        label: 20,
+        cell: 0,
+        found: 5,
+        from: 1,
+    };
+    assert_eq!(phase.workers[0], replacing);
+    while phase.turn(&mut table, 0).unwrap() == Answer::WentOn {}
+    assert_eq!(table, [5, 0, 0, 0, 0]);
+}
+
+#[test]
+fn a_nearer_empty_cell_is_taken() {
+    let (mut phase, mut table) = seeking_back();
+    phase.order(2, 5).unwrap();
+    while phase.turn(&mut table, 2).unwrap() == Answer::WentOn {}
+    assert_eq!(table, [20, 0, 0, 0, 0]);
+    assert_eq!(phase.turn(&mut table, 0), Ok(Answer::WentOn));
+    assert_eq!(phase.turn(&mut table, 0), Ok(Answer::Finished));
+    assert_eq!(table, [0; 5]);
+}
+
+#[test]
+fn sheet_limits() {
+    assert_eq!(
+        replay(
+            "list\nopen 1 1\ncells 1\ncells 0\ncells 4097\ncells 2\nlist\ncells 4096\n\
+             cells 4097\nopen 1 0\nopen 1 17\nopen 0 1\nopen 4 1\nopen 3 16\nturn 15\nturn 16\n\
+             close\ncells 2\nopen 1 1\nturn 1\nclose\n"
+        ),
+        "1 refused 1\n2 refused 1\n3 refused 1\n4 refused 1\n5 refused 1\n6 ok\n7 0\n8 ok\n\
+         9 refused 1\n10 refused 2\n11 refused 2\n12 refused 3\n13 refused 3\n14 ok\n15 idle\n\
+         16 refused 6\n17 ok\n18 ok\n19 ok\n20 refused 6\n21 ok\n"
+    );
+}
+
+#[test]
+fn a_shut_shift_on_the_sheet() {
+    let shut = "run\norder 0 1\norder\norder \norder x y z\norder 0 01\nturn 0\nclose\n";
+    let answers = |first: usize| {
+        (first..first + 8)
+            .map(|line| format!("{line} refused 11\n"))
+            .collect::<String>()
+    };
+    assert_eq!(replay(shut), answers(1));
+    let later = format!("cells 3\nopen 2 1\nclose\n{shut}");
+    assert_eq!(replay(&later), format!("1 ok\n2 ok\n3 ok\n{}", answers(4)));
+    assert_eq!(replay_bytes(b"order\t\0\r\n"), b"1\trefused\t11\n");
+}
+
+#[test]
+fn refused_opening_leaves_it_shut() {
+    assert_eq!(
+        replay("cells 3\nopen 2 0\nturn 0\nopen 2 1\nturn 0\n"),
+        "1 ok\n2 refused 2\n3 refused 11\n4 ok\n5 idle\n"
+    );
+}
+
+#[test]
+fn bad_lines() {
+    for line in [
+        "",
+        "\r",
+        "run\r",
+        "run\t",
+        "\trun",
+        " run",
+        "run\t0",
+        "Run",
+        "runs",
+        "ru",
+        "cells",
+        "cells\t",
+        "cells\t5\t",
+        "cells\t05",
+        "cells\t5\r",
+        "cells\t4294967296",
+        "cells\t+5",
+        "cells\t-5",
+        "cells\t5\0",
+        "cells 5",
+        "open\t1",
+        "open\t1\t",
+        "open\t1\t1\t1",
+        "open\t\t1\t1",
+        "open\t01\t1",
+        "open\t1\t18446744073709551617",
+        "turn",
+        "turn\t00",
+        "turn\t0\t0",
+        "close\t",
+        "close\t0",
+        "list\t",
+        "order\0",
+        "order ",
+        "orders",
+        "orde",
+        "\u{feff}run",
+    ] {
+        let sheet = format!("{line}\nlist\n");
+        assert_eq!(replay_bytes(sheet.as_bytes()), b"1\tbad\n", "{line:?}");
+    }
+    // In an open shift also these.
+    for line in [
+        "cells\t5",
+        "cells\t1",
+        "cells",
+        "open\t1\t1",
+        "open\t9\t9",
+        "open",
+        "order",
+        "order\t0",
+        "order\t0\t01",
+        "order\t0\t1\t",
+        "order\t0\t4294967296",
+        "order\t0\t1\r",
+    ] {
+        let sheet = format!("cells\t5\nopen\t1\t1\n{line}\nlist\n");
+        assert_eq!(
+            replay_bytes(sheet.as_bytes()),
+            b"1\tok\n2\tok\n3\tbad\n",
+            "{line:?}"
+        );
+    }
+}
+
+#[test]
+fn ends_of_input() {
+    assert_eq!(replay_bytes(b""), b"");
+    assert_eq!(replay_bytes(b"\n"), b"1\tbad\n");
+    assert_eq!(replay_bytes(b"run"), b"1\trefused\t11\n");
+    assert_eq!(replay_bytes(b"run\n"), b"1\trefused\t11\n");
+    assert_eq!(replay_bytes(b"run\n\n"), b"1\trefused\t11\n2\tbad\n");
+    assert_eq!(replay_bytes(b"run\nru"), b"1\trefused\t11\n2\tbad\n");
+}
+
+#[test]
+fn run_fields() {
+    assert_eq!(
+        replay(
+            "cells 5\nopen 1 3\nrun\norder 1 4294967295\nrun\nclose\nopen 3 3\norder 0 5\n\
+             order 2 4294967295\nrun\nrun\n"
+        ),
+        "1 ok\n2 ok\n3 - - -\n4 ok\n5 - done -\n6 ok\n7 ok\n8 ok\n9 ok\n10 no - yes\n11 - - -\n"
+    );
+}
+
+/// A take-out in the middle of its work leaves a copy: list is refused 4.
+#[test]
+fn list_in_an_open_shift() {
+    assert_eq!(
+        replay(
+            "cells 5\nopen 1 2\norder 0 3\norder 1 8\nrun\nclose\nopen 2 1\norder 0 8\n\
+             turn 0\nturn 0\nturn 0\nlist\nturn 0\nlist\nrun\nlist\n"
+        ),
+        "1 ok\n2 ok\n3 ok\n4 ok\n5 done done\n6 ok\n7 ok\n8 ok\n\
+         9 on\n10 on\n11 on\n12 2 8 3\n13 on\n14 refused 4\n15 done\n16 1 3\n"
+    );
+}
