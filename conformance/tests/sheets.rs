@@ -28,7 +28,8 @@ fn replay(input: &[u8]) -> Vec<u8> {
 }
 
 fn shown(text: &[u8]) -> String {
-    let end = text.len().min(20_000);
+    // a generated sheet is far shorter than this and is shown whole
+    let end = text.len().min(1_000_000);
     text[..end].split_inclusive(|&b| b == b'\n').map(|line| format!("  {}\n", line.escape_ascii())).collect()
 }
 

@@ -34,7 +34,8 @@ loop-less : tie.Need-loop-less Inv-loop μ-loop
 loop-less c = search needs
 
 loop-again : tie.Need-loop-again Inv-loop μ-loop
-loop-again c = listing-on (c .before .before .before .before .before .before .loop .inv) (c .before .before .before .before .before .loop-test .taken) (c .before .before .before .shared-slice-known2 .given (c .before .before .before .before .before .before .loop .i) .fits) (c .before .before .put-key .ensures)
+loop-again c = listing-on (c .before .before .before .before .before .before .loop .inv) (c .before .before .before .before .before .loop-test .taken)
+    (c .before .before .before .shared-slice-known2 .given (c .before .before .before .before .before .before .loop .i) .fits) (c .before .before .put-key .ensures)
 
 same-length : tie.Need-same-length Inv-loop μ-loop
 same-length c = search needs

@@ -9,7 +9,13 @@ put-field-requires : tie.Need-put-field-requires
 put-field-requires c κs = omega (arith, twenty-digits _ (c .before .before .before .fits .count .fits))
 
 put-keys-requires : tie.Need-put-keys-requires
-put-keys-requires c κs = let e = c .before .before .before .put-field .ensures in omega (arith, e .place, as-long e, twenty-digits _ (c .before .before .before .before .before .before .before .fits .count .fits))
+put-keys-requires c κs = let e = c .before .before .before .put-field .ensures in omega (
+  arith,
+  e .place,
+  as-long e,
+  twenty-digits _
+      (c .before .before .before .before .before .before .before .fits .count .fits),
+)
 
 same-length : tie.Need-same-length
 same-length c = search needs

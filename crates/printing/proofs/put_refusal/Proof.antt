@@ -28,7 +28,11 @@ same-length c = search needs
 
 returns : tie.Need-returns
 returns c =
-    both-written (field refused ++ 9 ∷ []) (ap digitsOf (c .before .before .before .number .ensures)) (omega (arith, two-digits (c .before .before .before .before .before .before .before .before .before .before .before .args .why)))
+    both-written (field refused ++ 9 ∷ []) (ap digitsOf (c .before .before .before .number .ensures)) (omega (
+      arith,
+      two-digits
+          (c .before .before .before .before .before .before .before .before .before .before .before .args .why),
+    ))
     (c .before .before .before .before .before .before .before .put-bytes .ensures) (c .before .before .put-number .ensures)
 
 pub put-refusal-spec : {M : Type 1} → statement M

@@ -41,13 +41,21 @@ same-length : tie.Need-same-length
 same-length c = search needs
 
 returns : tie.Need-returns
-returns c = rw (c .before .before .before .before .before .told .given .1) (soon (omega (arith, reply-short (c .before .before .before .before .before .told .given .0 .0))) (c .before .before .put-reply .ensures))
+returns c = rw (c .before .before .before .before .before .told .given .1) (soon (omega (
+  arith,
+  reply-short
+      (c .before .before .before .before .before .told .given .0 .0),
+)) (c .before .before .put-reply .ensures))
 
 same-length-2 : tie.Need-same-length-2
 same-length-2 c = search needs
 
 returns-2 : tie.Need-returns-2
-returns-2 c = rw (c .before .before .before .before .before .told2 .given .1) (soon (omega (arith, turn-short (c .before .before .before .before .before .told2 .given .0 .0))) (c .before .before .put-turn .ensures))
+returns-2 c = rw (c .before .before .before .before .before .told2 .given .1) (soon (omega (
+  arith,
+  turn-short
+      (c .before .before .before .before .before .told2 .given .0 .0),
+)) (c .before .before .put-turn .ensures))
 
 same-length-3 : tie.Need-same-length-3
 same-length-3 c = search needs

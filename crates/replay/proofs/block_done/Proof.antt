@@ -46,7 +46,12 @@ slice-reshare-prefix-line-done c = search needs
 slice-aggregate-line-done : tie.Need-slice-aggregate-line-done Inv-loop μ-loop
 slice-aggregate-line-done c =
     let g = c .before .before .before .before .before .gather in
-    let l : g .result .len ≤ length (g .last .1 .1 .0) = omega (arith, g .ensures .gathered, g .kept .1 .1 .0, c .before .before .before .before .before .before .before .before .loop .inv .line-long) in
+    let l : g .result .len ≤ length (g .last .1 .1 .0) = omega (
+      arith,
+      g .ensures .gathered,
+      g .kept .1 .1 .0,
+      c .before .before .before .before .before .before .before .before .loop .inv .line-long,
+    ) in
     sym (length-take-le _ _ l)
 
 line-done-requires : tie.Need-line-done-requires Inv-loop μ-loop

@@ -14,7 +14,9 @@ add-line-done : tie.Need-add-line-done
 add-line-done c = search needs
 
 slice-aggregate-line-done : tie.Need-slice-aggregate-line-done
-slice-aggregate-line-done c = let h = c .before .before .before .before .before .before .before .pre in let l : c .before .before .before .before .before .before .before .args .carried .len ≤ length (c .before .before .before .before .before .before .before .args .line .now) = omega (arith, h .1 .0, h .1 .1 .0) in sym (length-take-le _ _ l)
+slice-aggregate-line-done c = let h = c .before .before .before .before .before .before .before .pre in let l :
+    c .before .before .before .before .before .before .before .args .carried .len ≤ length (c .before .before .before .before .before .before .before .args .line .now) =
+    omega (arith, h .1 .0, h .1 .1 .0) in sym (length-take-le _ _ l)
 
 line-done-requires : tie.Need-line-done-requires
 line-done-requires c κs = search needs

@@ -56,8 +56,22 @@ slice-aggregate-last-line-3 c = search needs
 last-line-requires : tie.Need-last-line-requires Inv-loop μ-loop
 last-line-requires c κs =
     let r = c .before .before .before .before .before .before .before .before .before .read-some in
-    let v = c .before .before .before .before .before .before .before .before .before .before .before .before .before .before .loop .inv in
-    (search needs, (r .ensures .0 .gathered, (omega (arith, r .kept .1 .0, v .line-long), omega (arith, r .ensures .0 .few, v .few, c .before .before .before .before .before .before .before .before .before .before .before .before .before .loop-test .taken, c .before .before .before .if2 .taken))))
+    let v = c .before .before .before .before .before .before .before .before .before .before .before .before .before .before .loop .inv in (
+      search needs,
+      (
+        r .ensures .0 .gathered,
+        (
+          omega (arith, r .kept .1 .0, v .line-long),
+          omega (
+            arith,
+            r .ensures .0 .few,
+            v .few,
+            c .before .before .before .before .before .before .before .before .before .before .before .before .before .loop-test .taken,
+            c .before .before .before .if2 .taken,
+          ),
+        ),
+      ),
+    )
 
 returns-2 : tie.Need-returns-2 Inv-loop μ-loop
 returns-2 c = search needs

@@ -28,8 +28,23 @@ slice-aggregate-block-done c = search needs
 block-done-requires : tie.Need-block-done-requires
 block-done-requires c κs =
     let h = c .before .before .before .before .before .before .before .before .before .before .before .before .before .pre in
-    let k = c .before .before .before .before .count .ensures in
-    (h .0, (h .1 .0, (h .1 .1 .0, omega (arith, h .1 .1 .1, k .0 .0, k .0 .1, c .before .before .before .before .before .before .before .read .kept .1 .0, c .before .before .before .before .before .before .before .before .before .large-buffer .ensures))))
+    let k = c .before .before .before .before .count .ensures in (
+      h .0,
+      (
+        h .1 .0,
+        (
+          h .1 .1 .0,
+          omega (
+            arith,
+            h .1 .1 .1,
+            k .0 .0,
+            k .0 .1,
+            c .before .before .before .before .before .before .before .read .kept .1 .0,
+            c .before .before .before .before .before .before .before .before .before .large-buffer .ensures,
+          ),
+        ),
+      ),
+    )
 
 same-length : tie.Need-same-length
 same-length c = search needs
@@ -42,8 +57,15 @@ same-length-3 c = search needs
 
 returns : tie.Need-returns
 returns c =
-    let k = c .before .before .before .before .before .before .before .before .before .before .before .count .ensures in
-    (carries-more (c .before .before .before .before .before .before .block-done .ensures) (omega (arith, k .0 .1)), omega (arith, k .0 .0, c .before .before .before .before .before .before .before .before .before .before .before .before .before .before .read .kept .1 .0, c .before .before .before .before .before .before .before .before .before .before .before .before .before .before .before .before .large-buffer .ensures))
+    let k = c .before .before .before .before .before .before .before .before .before .before .before .count .ensures in (
+      carries-more (c .before .before .before .before .before .before .block-done .ensures) (omega (arith, k .0 .1)),
+      omega (
+        arith,
+        k .0 .0,
+        c .before .before .before .before .before .before .before .before .before .before .before .before .before .before .read .kept .1 .0,
+        c .before .before .before .before .before .before .before .before .before .before .before .before .before .before .before .before .large-buffer .ensures,
+      ),
+    )
 
 pub read-some-spec : {M : Type 1} → statement M
 read-some-spec =

@@ -18,11 +18,13 @@ is-sound-requires c κs = search needs
 
 returns-2 : tie.Need-returns-2
 returns-2 c =
-    sym (sound-accepted gateway modulo (c .before .before .before .before .before .args .cells .now) (sym (c .before .before .before .size-ok .ensures) ∙ not-false _ (c .before .before .if1 .left)) (sym (c .before .is-sound .ensures) ∙ c .if2 .taken))
+    sym (sound-accepted gateway modulo (c .before .before .before .before .before .args .cells .now) (sym (c .before .before .before .size-ok .ensures) ∙ not-false _
+    (c .before .before .if1 .left)) (sym (c .before .is-sound .ensures) ∙ c .if2 .taken))
 
 returns-3 : tie.Need-returns-3
 returns-3 c =
-    sym (unsound-refused gateway modulo (c .before .before .before .before .before .args .cells .now) (sym (c .before .before .before .size-ok .ensures) ∙ not-false _ (c .before .before .if1 .left)) (sym (c .before .is-sound .ensures) ∙ c .if2 .left))
+    sym (unsound-refused gateway modulo (c .before .before .before .before .before .args .cells .now) (sym (c .before .before .before .size-ok .ensures) ∙ not-false _
+    (c .before .before .if1 .left)) (sym (c .before .is-sound .ensures) ∙ c .if2 .left))
 
 pub check-spec : {M : Type 1} → statement M
 check-spec = tie.close (tie.spec size-ok-requires returns is-sound-requires returns-2 returns-3)

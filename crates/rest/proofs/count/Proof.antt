@@ -21,7 +21,8 @@ enum-known-checked : tie.Need-enum-known-checked
 enum-known-checked c = search needs
 
 returns : tie.Need-returns
-returns c = ap counted.Keys (c .count-keys .ensures) ∙ sym (count-by gateway modulo (c .before .before .before .before .before .args .cells .now) Accepted (sym (c .before .before .before .check .ensures) ∙ c .before .enum-told .given .1))
+returns c = ap counted.Keys (c .count-keys .ensures) ∙ sym (count-by gateway modulo (c .before .before .before .before .before .args .cells .now) Accepted (sym
+    (c .before .before .before .check .ensures) ∙ c .before .enum-told .given .1))
 
 returns-2 : tie.Need-returns-2
 returns-2 c = sym (count-by gateway modulo (c .before .before .before .before .before .args .cells .now) (Refused _) (sym (c .before .before .before .check .ensures) ∙ c .before .checked .given .1))

@@ -15,7 +15,8 @@ tell-requires : tie.Need-tell-requires
 tell-requires c κs = search needs
 
 returns : tie.Need-returns
-returns c = let a = c .before .before .before .before .before .args in opened (a .replay) (a .cells .now) (c .before .before .before .before .before .pre) (a .kind) (a .count) _ _ (c .before .before .«open» .ensures) (c .tell .ensures)
+returns c = let a = c .before .before .before .before .before .args in opened (a .replay) (a .cells .now) (c .before .before .before .before .before .pre) (a .kind)
+    (a .count) _ _ (c .before .before .«open» .ensures) (c .tell .ensures)
 
 pub open-phase-spec : {M : Type 1} → statement M
 open-phase-spec = tie.close (tie.spec slice-aggregate-open open-requires tell-requires returns)

@@ -64,7 +64,8 @@ returns-2 : tie.Need-returns-2
 returns-2 c = rw (c .before .before .before .task2 .given .1) (record { result = c .open-phase .ensures; store = same-store (c .before .before .before .before .before .before .pre .0) })
 
 returns-3 : tie.Need-returns-3
-returns-3 c = let a = c .before .before .before .before .before .args in rw (c .before .before .task3 .given .1) (tells-on (a .replay) (a .cells .now) (c .before .before .before .before .before .pre .0) _ _ _ (c .give-order .ensures))
+returns-3 c = let a = c .before .before .before .before .before .args in rw (c .before .before .task3 .given .1) (tells-on (a .replay) (a .cells .now)
+    (c .before .before .before .before .before .pre .0) _ _ _ (c .give-order .ensures))
 
 same-length-3 : tie.Need-same-length-3
 same-length-3 c = search needs
@@ -79,7 +80,8 @@ returns-5 : tie.Need-returns-5
 returns-5 c = rw (c .before .before .before .before .enum-told .given .1) (c .before .before .run-out .ensures)
 
 returns-6 : tie.Need-returns-6
-returns-6 c = let a = c .before .before .before .before .args in rw (c .before .enum-told2 .given .1) (tells-on (a .replay) (a .cells .now) (c .before .before .before .before .pre .0) _ _ _ (c .close-phase .ensures))
+returns-6 c = let a = c .before .before .before .before .args in rw (c .before .enum-told2 .given .1) (tells-on (a .replay) (a .cells .now)
+    (c .before .before .before .before .pre .0) _ _ _ (c .close-phase .ensures))
 
 same-length-5 : tie.Need-same-length-5
 same-length-5 c = search needs
@@ -88,7 +90,8 @@ returns-7 : tie.Need-returns-7
 returns-7 c = rw (c .before .before .enum-told3 .given .1) (record { result = c .list-table .ensures; store = same-store (c .before .before .before .before .before .pre .0) })
 
 returns-8 : tie.Need-returns-8
-returns-8 c = let a = c .before .before .before .before .args in rw (c .before .enum-told4 .given .1) (tells-on (a .replay) (a .cells .now) (c .before .before .before .before .pre .0) _ _ _ (c .tell .ensures))
+returns-8 c = let a = c .before .before .before .before .args in rw (c .before .enum-told4 .given .1) (tells-on (a .replay) (a .cells .now)
+    (c .before .before .before .before .pre .0) _ _ _ (c .tell .ensures))
 
 pub perform-spec : {M : Type 1} → statement M
 perform-spec =

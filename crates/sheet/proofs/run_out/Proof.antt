@@ -20,7 +20,8 @@ same-length c = search needs
 returns : tie.Need-returns
 returns c =
     let a = c .before .before .before .before .before .before .before .before .args in
-    runs (a .replay) (a .cells .now) (c .before .before .before .before .before .before .before .before .pre .0) _ _ (c .before .before .before .before .run .ensures) (c .before .before .before .before .run .kept .1 .0)
+    runs (a .replay) (a .cells .now) (c .before .before .before .before .before .before .before .before .pre .0) _ _ (c .before .before .before .before .run .ensures)
+    (c .before .before .before .before .run .kept .1 .0)
 
 pub run-out-spec : {M : Type 1} → statement M
 run-out-spec =

@@ -13,7 +13,8 @@ tell-requires-2 : tie.Need-tell-requires-2
 tell-requires-2 c κs = search needs
 
 returns-2 : tie.Need-returns-2
-returns-2 c = let a = c .before .before .before .before .args in too-long (a .replay) (a .cells .now) (c .before .before .before .before .pre) (a .length) _ (c .before .before .if1 .left) (c .before .if2 .taken) (c .tell2 .ensures)
+returns-2 c = let a = c .before .before .before .before .args in too-long (a .replay) (a .cells .now) (c .before .before .before .before .pre) (a .length) _
+    (c .before .before .if1 .left) (c .before .if2 .taken) (c .tell2 .ensures)
 
 slice-relend-prefix-clear : tie.Need-slice-relend-prefix-clear
 slice-relend-prefix-clear c = search needs
@@ -31,7 +32,9 @@ same-length : tie.Need-same-length
 same-length c = search needs
 
 returns-3 : tie.Need-returns-3
-returns-3 c = let a = c .before .before .before .before .before .before .before .before .args in fresh (a .replay) (a .cells .now) (c .before .before .before .before .before .before .before .before .pre) (a .length) _ _ (c .before .before .before .before .before .before .if1 .left) (c .before .before .before .before .before .if2 .left) (c .before .before .before .clear .ensures) (c .tell3 .ensures)
+returns-3 c = let a = c .before .before .before .before .before .before .before .before .args in fresh (a .replay) (a .cells .now)
+    (c .before .before .before .before .before .before .before .before .pre) (a .length) _ _ (c .before .before .before .before .before .before .if1 .left)
+    (c .before .before .before .before .before .if2 .left) (c .before .before .before .clear .ensures) (c .tell3 .ensures)
 
 pub set-cells-spec : {M : Type 1} → statement M
 set-cells-spec =

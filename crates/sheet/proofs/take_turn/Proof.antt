@@ -23,7 +23,8 @@ same-length c = search needs
 returns : tie.Need-returns
 returns c =
     let a = c .before .before .before .before .before .before .before .before .args in
-    turns (a .replay) (a .cells .now) (c .before .before .before .before .before .before .before .before .pre) (a .worker) _ _ _ (c .before .before .before .before .turn .ensures) (c .before .before .before .before .turn .kept .1 .0) (c .tell .ensures)
+    turns (a .replay) (a .cells .now) (c .before .before .before .before .before .before .before .before .pre) (a .worker) _ _ _
+    (c .before .before .before .before .turn .ensures) (c .before .before .before .before .turn .kept .1 .0) (c .tell .ensures)
 
 pub take-turn-spec : {M : Type 1} → statement M
 take-turn-spec =
