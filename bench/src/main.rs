@@ -122,25 +122,28 @@ fn recorded(kind: u64) -> (Vec<u32>, Vec<Call>) {
 }
 
 fn turns() {
+    type Run = fn(&Calls, u64, u64, &mut [u32], &mut [u32]) -> u32;
     for (kind, name) in [(1, "put in"), (2, "take out"), (3, "look up")] {
         let (opening, calls) = recorded(kind);
         let list = Calls::of(&calls);
-        let (mut ours, mut theirs) = (opening.clone(), opening.clone());
-        let (mut said, mut expected) = (vec![0; calls.len()], vec![0; calls.len()]);
-        let times = alternate(
-            61,
-            || {
-                ours.copy_from_slice(&opening);
-                seconds(|| assert_eq!(list.run(kind, 16, &mut ours, &mut said), 0))
-            },
-            || {
-                theirs.copy_from_slice(&opening);
-                seconds(|| assert_eq!(reference_run(kind, 16, &mut theirs, &calls, &mut expected), 0))
-            },
-        );
-        assert_eq!((ours, said), (theirs, expected));
-        let per = 1e9 / calls.len() as f64;
-        line(&format!("one call by value, {name}, {} calls", calls.len()), "ns", per, times);
+        for (run, how) in [(Calls::run_singly as Run, "one call by value"), (Calls::run, "batch of calls")] {
+            let (mut ours, mut theirs) = (opening.clone(), opening.clone());
+            let (mut said, mut expected) = (vec![0; calls.len()], vec![0; calls.len()]);
+            let times = alternate(
+                61,
+                || {
+                    ours.copy_from_slice(&opening);
+                    seconds(|| assert_eq!(run(&list, kind, 16, &mut ours, &mut said), 0))
+                },
+                || {
+                    theirs.copy_from_slice(&opening);
+                    seconds(|| assert_eq!(reference_run(kind, 16, &mut theirs, &calls, &mut expected), 0))
+                },
+            );
+            assert_eq!((ours, said), (theirs, expected));
+            let per = 1e9 / calls.len() as f64;
+            line(&format!("{how}, {name}, {} calls", calls.len()), "ns", per, times);
+        }
     }
 }
 

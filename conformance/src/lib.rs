@@ -22,6 +22,21 @@ mod raw {
             answers: *mut u32,
             answers_length: usize,
         ) -> u32;
+        #[allow(clippy::too_many_arguments)]
+        pub fn vulzegan_run_calls_singly(
+            kind: u64,
+            count: u64,
+            cells: *mut u32,
+            length: usize,
+            ops: *const u32,
+            ops_length: usize,
+            workers: *const u32,
+            workers_length: usize,
+            keys: *const u32,
+            keys_length: usize,
+            answers: *mut u32,
+            answers_length: usize,
+        ) -> u32;
     }
 }
 
@@ -89,6 +104,26 @@ impl Calls {
     pub fn run(&self, kind: u64, count: u64, cells: &mut [u32], answers: &mut [u32]) -> u32 {
         unsafe {
             raw::vulzegan_run_calls(
+                kind,
+                count,
+                cells.as_mut_ptr(),
+                cells.len(),
+                self.ops.as_ptr(),
+                self.ops.len(),
+                self.workers.as_ptr(),
+                self.workers.len(),
+                self.keys.as_ptr(),
+                self.keys.len(),
+                answers.as_mut_ptr(),
+                answers.len(),
+            )
+        }
+    }
+
+    /// The same, each call by value with the record tested at each.
+    pub fn run_singly(&self, kind: u64, count: u64, cells: &mut [u32], answers: &mut [u32]) -> u32 {
+        unsafe {
+            raw::vulzegan_run_calls_singly(
                 kind,
                 count,
                 cells.as_mut_ptr(),

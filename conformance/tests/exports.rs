@@ -81,15 +81,18 @@ fn the_limits_of_a_table() {
     }
 }
 
-/// Both sides run the calls; answers and tables are the same.
+/// The batch, the calls one by one and the reference run the calls; answers and tables are the same.
 fn same_run(kind: u64, crew: u64, table: &[u32], calls: &[Call]) -> Vec<u32> {
-    let (mut ours, mut theirs) = (table.to_vec(), table.to_vec());
-    let (mut said, mut expected) = (vec![MARK; calls.len() + 2], vec![MARK; calls.len() + 2]);
-    let opening = Calls::of(calls).run(kind, crew, &mut ours, &mut said);
-    assert_eq!(opening, reference_run(kind, crew, &mut theirs, calls, &mut expected), "opening {kind} {crew} {table:?}");
-    assert_eq!(said, expected, "answers of {kind} {crew} {table:?} {calls:?}");
-    assert_eq!(ours, theirs, "table after {kind} {crew} {table:?} {calls:?}");
-    ours
+    let mut expected = (vec![MARK; calls.len() + 2], table.to_vec());
+    let opening = reference_run(kind, crew, &mut expected.1, calls, &mut expected.0);
+    let list = Calls::of(calls);
+    for (run, name) in [(Calls::run as fn(&Calls, u64, u64, &mut [u32], &mut [u32]) -> u32, "batch"), (Calls::run_singly, "one by one")] {
+        let mut ours = (vec![MARK; calls.len() + 2], table.to_vec());
+        assert_eq!(run(&list, kind, crew, &mut ours.1, &mut ours.0), opening, "opening {kind} {crew} {table:?}, {name}");
+        assert_eq!(ours.0, expected.0, "answers of {kind} {crew} {table:?} {calls:?}, {name}");
+        assert_eq!(ours.1, expected.1, "table after {kind} {crew} {table:?} {calls:?}, {name}");
+    }
+    expected.1
 }
 
 #[test]

@@ -1,12 +1,16 @@
-//! The replay program on stored sheets, on long and damaged input, and on many generated sheets against the reference.
+//! The replay program on stored sheets, on long and damaged input, on input and output that fail, and on many generated sheets against the
+//! reference. The sheets come whole and cut into blocks, since the program answers a sheet block by block.
 
-use std::fs;
-use std::io::Write;
+use std::fs::{self, File};
+use std::io::{Read, Write};
+use std::ops::Range;
+use std::os::fd::{FromRawFd, OwnedFd};
+use std::os::unix::net::UnixStream;
 use std::path::{Path, PathBuf};
-use std::process::{Command, Stdio};
+use std::process::{Command, Output, Stdio};
 use std::thread;
 
-use reference::generate::sheet;
+use reference::generate::{sheet, styled, Rng, Style};
 use reference::sheet::replay_bytes;
 
 fn program() -> PathBuf {
@@ -14,17 +18,69 @@ fn program() -> PathBuf {
     Path::new(&target).join("bin/replay")
 }
 
-/// What the program prints for a sheet.
-fn replay(input: &[u8]) -> Vec<u8> {
-    let mut child = Command::new(program()).stdin(Stdio::piped()).stdout(Stdio::piped()).spawn().expect("the replay program");
-    let mut stdin = child.stdin.take().expect("its input");
-    let output = thread::scope(|scope| {
+// ---- blocks
+
+/// The greatest block that a pipe keeps apart from the next.
+const PACKET: usize = 4096;
+
+/// Bytes of a block: very few, around the 28 that are kept of a line, and a whole packet.
+const CUTS: [usize; 7] = [1, 2, 3, 27, 28, 29, PACKET];
+
+/// As large blocks as an ordinary pipe takes.
+const WHOLE: usize = usize::MAX;
+
+extern "C" {
+    fn pipe2(ends: *mut i32, flags: i32) -> i32;
+}
+
+const O_DIRECT: i32 = 0o40000;
+const O_CLOEXEC: i32 = 0o2000000;
+
+/// The reading and the writing end of a pipe for blocks of `size` bytes. Up to a packet each read brings exactly one block: Linux keeps the
+/// writes to such a pipe apart.
+fn pipe(size: usize) -> (File, File) {
+    let packets = if size <= PACKET { O_DIRECT } else { 0 };
+    let mut ends = [0; 2];
+    let made = unsafe { pipe2(ends.as_mut_ptr(), O_CLOEXEC | packets) };
+    assert_eq!(made, 0, "a pipe");
+    let [from, to] = ends.map(|end| File::from(unsafe { OwnedFd::from_raw_fd(end) }));
+    (from, to)
+}
+
+#[test]
+fn a_pipe_cuts() {
+    for size in CUTS {
+        let (mut from, mut to) = pipe(size);
+        let input: Vec<u8> = (0..=255).cycle().take(3 * size + 1).collect();
+        for block in input.chunks(size) {
+            to.write_all(block).expect("room for four blocks");
+        }
+        drop(to);
+        let mut space = vec![0; 65536];
+        for block in input.chunks(size).chain([&[][..]]) {
+            let count = from.read(&mut space).expect("a block");
+            assert_eq!(&space[..count], block, "blocks of {size}");
+        }
+    }
+}
+
+// ---- the program
+
+/// How the program ends that writes to `stdout` and is fed the sheet in blocks of `size` bytes.
+fn run(input: &[u8], size: usize, stdout: Stdio) -> Output {
+    let (from, mut to) = pipe(size);
+    let child = Command::new(program()).stdin(from).stdout(stdout).stderr(Stdio::piped()).spawn().expect("the replay program");
+    thread::scope(|scope| {
         // the program may end before it has read all: that is no failure
-        scope.spawn(move || drop(stdin.write_all(input)));
+        scope.spawn(move || input.chunks(size).all(|block| to.write_all(block).is_ok()));
         child.wait_with_output().expect("its output")
-    });
+    })
+}
+
+/// The program ended by itself, and this is all that it said on standard error.
+fn said(output: &Output, message: &str) {
     assert!(output.status.code().is_some(), "the program was stopped by a signal");
-    output.stdout
+    assert_eq!(output.stderr.escape_ascii().to_string(), message.as_bytes().escape_ascii().to_string(), "on standard error");
 }
 
 fn shown(text: &[u8]) -> String {
@@ -33,10 +89,24 @@ fn shown(text: &[u8]) -> String {
     text[..end].split_inclusive(|&b| b == b'\n').map(|line| format!("  {}\n", line.escape_ascii())).collect()
 }
 
-fn same(name: &str, input: &[u8], expected: &[u8]) {
-    let got = replay(input);
-    assert!(got == expected, "{name}\nsheet:\n{}expected:\n{}got:\n{}", shown(input), shown(expected), shown(&got));
+fn same(name: &str, input: &[u8], expected: &[u8], size: usize) {
+    let output = run(input, size, Stdio::piped());
+    said(&output, "");
+    let got = output.stdout;
+    assert!(got == expected, "{name}, blocks of {size}\nsheet:\n{}expected:\n{}got:\n{}", shown(input), shown(expected), shown(&got));
 }
+
+/// The same for the whole sheet and for every size of blocks that makes not too many of them.
+fn same_cut(name: &str, input: &[u8], expected: &[u8]) {
+    same(name, input, expected, WHOLE);
+    for size in CUTS {
+        if input.len() / size <= 300_000 {
+            same(name, input, expected, size);
+        }
+    }
+}
+
+// ---- sheets
 
 /// Each stored sheet prints its stored output; the reference agrees.
 #[test]
@@ -51,7 +121,7 @@ fn stored_sheets() {
         let expected = fs::read(path.with_extension("out")).expect("its output");
         let name = path.display().to_string();
         assert_eq!(replay_bytes(&input), expected, "the reference on {name}");
-        same(&name, &input, &expected);
+        same_cut(&name, &input, &expected);
     }
 }
 
@@ -74,31 +144,146 @@ fn long_and_strange_input() {
         ("the same, and the sheet goes on", &after),
         ("300,000 turns", &many),
     ] {
-        same(name, input, &replay_bytes(input));
+        same_cut(name, input, &replay_bytes(input));
     }
+}
+
+/// Lines that put in `keys` by sixteen workers, sixteen orders to a run.
+fn put_in(text: &mut Vec<u8>, cells: usize, keys: impl Iterator<Item = u32>) {
+    text.extend(format!("cells\t{cells}\nopen\t1\t16\n").bytes());
+    for (i, key) in keys.enumerate() {
+        text.extend(format!("order\t{}\t{key}\n", i % 16).bytes());
+        if i % 16 == 15 {
+            text.extend(b"run\n");
+        }
+    }
+    text.extend(b"run\nclose\n");
 }
 
 /// A table of 4,096 cells filled, listed and emptied: the longest output lines.
 #[test]
 fn largest_table() {
-    let mut text = b"cells\t4096\nopen\t1\t16\n".to_vec();
-    for i in 0..4095u32 {
-        text.extend(format!("order\t{}\t{}\n", i % 16, u32::MAX - i).bytes());
-        if i % 16 == 15 {
-            text.extend(b"run\n");
-        }
-    }
-    text.extend(b"run\nclose\nlist\nlist\nopen\t2\t16\norder\t3\t4294967295\nrun\nclose\nlist\n");
-    same("largest table", &text, &replay_bytes(&text));
+    let mut text = Vec::new();
+    put_in(&mut text, 4096, (0..4095).map(|i| u32::MAX - i));
+    text.extend(b"list\nlist\nopen\t2\t16\norder\t3\t4294967295\nrun\nclose\nlist\n");
+    same_cut("largest table", &text, &replay_bytes(&text));
 }
 
-/// SHEETS generated sheets from FIRST_SEED on.
+/// Megabytes of output: lists that fill the output's buffer one at a time, or several with a rest, among lines with short answers.
 #[test]
-fn generated_sheets() {
+fn long_output() {
+    let random = &mut Rng::new(5);
+    let mut text = Vec::new();
+    for (cells, keys, lists) in [(4096, 4095, 60), (1000, 700, 300), (300, 40, 5000)] {
+        put_in(&mut text, cells, (0..keys).map(|_| 1 + random.below(u32::MAX as usize) as u32));
+        for _ in 0..lists {
+            text.extend(b"list\n");
+            text.extend(b"turn\t0\n".repeat(random.below(9)));
+        }
+    }
+    let expected = replay_bytes(&text);
+    assert!(expected.len() > 6_000_000, "{} bytes of output", expected.len());
+    same_cut("long output", &text, &expected);
+}
+
+/// Sheets of many packets.
+#[test]
+fn long_sheets() {
+    let long: Vec<Vec<u8>> = (0..).map(|seed| styled(Style::Large, seed)).filter(|text| text.len() > 3 * PACKET).take(8).collect();
+    for text in long {
+        same_cut("a long sheet", &text, &replay_bytes(&text));
+    }
+}
+
+/// The seeds of SHEETS generated sheets from FIRST_SEED on.
+fn seeds() -> Range<u64> {
     let number = |name: &str, default: u64| std::env::var(name).map_or(default, |n| n.parse().expect("a number"));
     let first = number("FIRST_SEED", 0);
-    for seed in first..first + number("SHEETS", 1500) {
+    first..first + number("SHEETS", 3000)
+}
+
+#[test]
+fn generated_sheets() {
+    for seed in seeds() {
         let text = sheet(seed);
-        same(&format!("generated sheet of seed {seed}"), &text, &replay_bytes(&text));
+        same(&format!("generated sheet of seed {seed}"), &text, &replay_bytes(&text), WHOLE);
     }
+}
+
+/// Each sheet cut by one size, in turn, and every tenth by all.
+#[test]
+fn generated_sheets_cut() {
+    for (seed, size) in seeds().zip(CUTS.into_iter().cycle()) {
+        let text = sheet(seed);
+        let expected = replay_bytes(&text);
+        let name = format!("generated sheet of seed {seed}");
+        if seed % 10 == 0 {
+            same_cut(&name, &text, &expected);
+        } else {
+            same(&name, &text, &expected, size);
+        }
+    }
+}
+
+// ---- input and output that fail
+
+const UNREAD: &str = "replay: cannot read standard input\n";
+const UNWRITTEN: &str = "replay: cannot write standard output\n";
+
+/// The program started by a shell with these redirections.
+fn redirected(to: &str) -> Output {
+    Command::new("sh").args(["-c", &format!("exec \"$0\" {to}")]).arg(program()).stdin(Stdio::null()).output().expect("a shell")
+}
+
+#[test]
+fn a_directory_as_input() {
+    let output = redirected("</");
+    said(&output, UNREAD);
+    assert!(output.stdout.is_empty());
+}
+
+#[test]
+fn closed_input() {
+    let output = redirected("<&-");
+    said(&output, UNREAD);
+    assert!(output.stdout.is_empty());
+}
+
+/// Input that fails behind some lines; none of them is answered wrongly.
+#[test]
+fn input_that_breaks_off() {
+    let text = b"cells\t3\nopen\t1\t1\norder\t0\t2\nrun\nclose\nlist\n";
+    let (mut ours, mut theirs) = UnixStream::pair().expect("a pair of sockets");
+    // our end is closed with a byte unread: the other end's reads fail once they have brought all that we wrote
+    theirs.write_all(b"x").expect("a byte sent");
+    ours.write_all(text).expect("a sheet sent");
+    drop(ours);
+    let output = Command::new(program()).stdin(OwnedFd::from(theirs)).output().expect("the replay program");
+    said(&output, UNREAD);
+    assert!(replay_bytes(text).starts_with(&output.stdout), "{}", shown(&output.stdout));
+}
+
+/// Where no byte can be written, the program says so once and ends, on a short sheet and on one whose output fills its buffer many times.
+#[test]
+fn a_full_device_as_output() {
+    let many: Vec<u8> = b"cells\t4096\nopen\t1\t16\n".iter().copied().chain(b"turn\t3\n".repeat(300_000)).collect();
+    for text in [&b"cells\t3\nlist\n"[..], b"list", &many] {
+        let full = File::options().write(true).open("/dev/full").expect("/dev/full");
+        said(&run(text, WHOLE, full.into()), UNWRITTEN);
+    }
+}
+
+#[test]
+fn closed_output() {
+    let output = Command::new("sh").args(["-c", "echo list | \"$0\" >&-"]).arg(program()).output().expect("a shell");
+    said(&output, UNWRITTEN);
+}
+
+/// A reader that has gone: the system's signal ends the program, and it tells nothing.
+#[test]
+fn a_reader_that_has_gone() {
+    let (from, to) = pipe(WHOLE);
+    drop(from);
+    let output = run(b"list\n", WHOLE, to.into());
+    assert!(output.status.code().is_none() && output.stderr.is_empty(), "{output:?}");
 }

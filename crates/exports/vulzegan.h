@@ -37,6 +37,11 @@ uint32_t vulzegan_run_calls(uint64_t kind, uint64_t count, uint32_t *cells, size
                             const uint32_t *workers, size_t workers_len, const uint32_t *keys, size_t keys_len,
                             uint32_t *answers, size_t answers_len);
 
+/* The same, each call by value with the record tested at each, as single calls are: slower. */
+uint32_t vulzegan_run_calls_singly(uint64_t kind, uint64_t count, uint32_t *cells, size_t cells_len, const uint32_t *ops, size_t ops_len,
+                                   const uint32_t *workers, size_t workers_len, const uint32_t *keys, size_t keys_len,
+                                   uint32_t *answers, size_t answers_len);
+
 #ifdef __cplusplus
 }
 #endif

@@ -112,3 +112,6 @@ worker-formed k n m i (w ∷ ws) zero h l =
     let e : ltb i m ≡ true = lt-ltb i m (omega arith) in rw e at (both (cond (ltb i m) (activityOk k n (w .activity)) (isIdle (w .activity))) _ h .0)
 worker-formed k n m i (w ∷ ws) (suc j) h l =
     worker-formed k n m (suc i) ws j (both (cond (ltb i m) (activityOk k n (w .activity)) (isIdle (w .activity))) _ h .1) (omega arith)
+
+pub good-worker : (L : Limits) (p : Phase) → isWellFormed L p ≡ true → (w : ℕ) → w < p .count → activityOk (p .kind) (p .length) (at (p .workers) w) ≡ true
+good-worker L p good w below = worker-formed (p .kind) (p .length) (p .count) 0 (p .workers) w (well-formed L p good .workers-ok) (omega arith)

@@ -11,15 +11,16 @@ use steps::activity_ok;
 use steps::step;
 use steps::touched;
 ghost use mathlib.Core.Path.{_≡_};
-ghost use mathlib.Core.Bool.{false, cond};
-ghost use Prim.Native.Nat.{_-_};
+ghost use mathlib.Core.Bool.{true, false, cond};
+ghost use Prim.Native.Nat.{_-_, _<_};
 ghost use lib.Dec.{eqb};
+ghost use lib.ListN.{length};
 ghost use Rattle.layout.specs.Home.{modulo};
 ghost use Rattle.rule.specs.WellFormed.{activityOk};
 ghost use Rattle.state.specs.Limits.{gateway};
 ghost use Rattle.calls.specs.WellFormed.{isIdle, isWellFormed};
 ghost use Rattle.calls.specs.Calls.{allIdle, closeCall, orderCall, turnCall, turnTable};
-ghost use Rattle.calls.specs.Split.{numbersOk, oneTurn, oneTable};
+ghost use Rattle.calls.specs.Split.{numbersOk, oneOrder, oneTurn, oneTable};
 
 // The answer of a turn.
 pub enum TurnReply {
@@ -38,8 +39,15 @@ pub struct Moved {
     pub reply: TurnReply,
 }
 
+// A worker after an order, the insert operations left, and the answer.
+pub struct Given {
+    pub worker: Worker,
+    pub left: u32,
+    pub reply: Reply,
+}
+
 // ---- which phase states are well formed
-fn is_idle(activity: Activity) -> bool
+pub fn is_idle(activity: Activity) -> bool
     ensures { λ r. ⌜ r ≡ isIdle activity ⌝ }
 {
     match activity {
@@ -161,11 +169,58 @@ fn left_after(kind: u32, left: u32) -> u32
     if left == 0 { 0 } else { left - 1 }
 }
 
+// An order to one worker by itself. The rest of its phase is not tested.
+pub fn one_order(kind: u32, length: u32, left: u32, worker: Worker, key: u32) -> Given
+    requires { ⌜ 0 < length ⌝ }
+    ensures { λ r. ⌜ r ≡ oneOrder modulo kind length left worker key ⌝ }
+{
+    let activity = worker.activity;
+    if !is_idle(activity) {
+        return Given {
+            worker,
+            left,
+            reply: Reply::Refused(Refusal::Busy),
+        };
+    }
+    if key == 0 {
+        return Given {
+            worker,
+            left,
+            reply: Reply::Refused(Refusal::Blank),
+        };
+    }
+    if is_full(kind, left) {
+        return Given {
+            worker,
+            left,
+            reply: Reply::Refused(Refusal::Full),
+        };
+    }
+    let cell = key % length;
+    Given {
+        worker: Worker {
+            activity: Activity::Reading { key, cell },
+        },
+        left: left_after(kind, left),
+        reply: Reply::Accepted,
+    }
+}
+
+// An order to one worker of the phase. The workers are tested in its own body: the phase is not copied for it.
 pub fn order(mut phase: Phase, worker: usize, key: u32) -> Replied
     ensures { λ r. ⌜ r ≡ orderCall gateway phase modulo worker key ⌝ }
 {
-    if !is_well_formed(phase) {
+    if !numbers_ok(phase.kind, phase.length, phase.count, phase.left) {
         return refused(phase, Refusal::Spoilt);
+    }
+    let mut i: usize = 0;
+    while i < Phase::MOST_WORKERS {
+        let w = phase.workers[i];
+        let activity = w.activity;
+        if !worker_ok(phase.kind, phase.length, i < phase.count as usize, activity) {
+            return refused(phase, Refusal::Spoilt);
+        }
+        i += 1;
     }
     if phase.shut {
         return refused(phase, Refusal::Shut);
@@ -173,53 +228,34 @@ pub fn order(mut phase: Phase, worker: usize, key: u32) -> Replied
     if phase.count as usize <= worker {
         return refused(phase, Refusal::NoWorker);
     }
-    let ordered = phase.workers[worker];
-    let activity = ordered.activity;
-    if !is_idle(activity) {
-        return refused(phase, Refusal::Busy);
-    }
-    if key == 0 {
-        return refused(phase, Refusal::Blank);
-    }
-    if is_full(phase.kind, phase.left) {
-        return refused(phase, Refusal::Full);
-    }
-    let cell = key % phase.length;
-    phase.left = left_after(phase.kind, phase.left);
-    phase.workers[worker] = Worker {
-        activity: Activity::Reading { key, cell },
-    };
-    Replied {
-        phase,
-        reply: Reply::Accepted,
-    }
+    let given = one_order(
+        phase.kind,
+        phase.length,
+        phase.left,
+        phase.workers[worker],
+        key,
+    );
+    let next = given.worker;
+    let reply = given.reply;
+    phase.workers[worker] = next;
+    phase.left = given.left;
+    Replied { phase, reply }
 }
 
 // ---- turn
-// The turn of a worker by itself. The rest of its phase is not tested.
-pub fn one_turn(kind: u32, length: u32, cells: &mut [u32], worker: Worker) -> Moved
-    ensures { λ r. ⌜ (r ≡ oneTurn modulo kind length (now (cells .entry)) worker) × (now (cells .exit) ≡ oneTable modulo kind length (now (cells .entry)) worker) ⌝ }
+// The turn of a worker that its phase may have, on a table as long as its phase says. Neither is tested.
+pub fn one_turn(kind: u32, size: u32, cells: &mut [u32], worker: Worker) -> Moved
+    requires { ⌜ (activityOk kind size (worker .activity) ≡ true) × (size ≡ length (now cells)) ⌝ }
+    ensures { λ r. ⌜ (r ≡ oneTurn modulo kind size (now (cells .entry)) worker) × (now (cells .exit) ≡ oneTable modulo kind size (now (cells .entry)) worker) ⌝ }
 {
     let activity = worker.activity;
-    if !activity_ok(kind, length, activity) {
-        return Moved {
-            worker,
-            reply: TurnReply::Refused(Refusal::Spoilt),
-        };
-    }
-    if length as usize != cells.len() {
-        return Moved {
-            worker,
-            reply: TurnReply::Refused(Refusal::OtherTable),
-        };
-    }
     let Place::At(cell) = touched(activity) else {
         return Moved {
             worker,
             reply: TurnReply::Answered(Answer::Idle),
         };
     };
-    let outcome = step(kind, length, activity, cells[cell as usize]);
+    let outcome = step(kind, size, activity, cells[cell as usize]);
     cells[cell as usize] = outcome.content;
     let next = outcome.activity;
     let answer = outcome.answer;

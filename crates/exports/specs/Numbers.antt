@@ -9,7 +9,8 @@ use Rattle.state.specs.Refusals.{numberOf, replyNumber}
 use Rattle.rest.specs.declared.Counted.{Counted}
 use Rattle.rest.specs.declared.Counted.the-variants as counted
 use Rattle.history.specs.History.{opening, after}
-use Rattle.runs.specs.Runs.{answersOf, dealt}
+use Rattle.runs.specs.Runs.{answersOf}
+use Rattle.batch.specs.Batch.{dealt}
 
 -- the count, at most 8,192, or 2³² and the number of the refusal
 abbrev pub countedNumber : Counted → ℕ

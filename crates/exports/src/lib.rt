@@ -4,12 +4,9 @@ use runs::reply_number;
 ghost use mathlib.Core.Path.{_≡_};
 ghost use Rattle.layout.specs.Home.{modulo};
 ghost use Rattle.state.specs.Limits.{gateway};
-ghost use Rattle.state.specs.Open.{openReply};
 ghost use Rattle.state.specs.Refusals.{replyNumber};
-ghost use Rattle.state.specs.declared.Reply.the-variants.{Accepted};
 ghost use Rattle.rest.specs.Calls.{checkCall, countCall, listCall, listAfter};
-ghost use Rattle.history.specs.Promise.{Claim};
-ghost use Rattle.runs.specs.Runs.{dealt};
+ghost use Rattle.batch.specs.Batch.{Promised};
 ghost use Rattle.exports.specs.Numbers.{countedNumber, RunNumbers};
 
 // The count, or 2 to the power 32 and the number of the refusal.
@@ -63,11 +60,29 @@ pub extern "C" fn vulzegan_run_calls(
 ) -> u32
     ensures is_run { λ r. ⌜ RunNumbers gateway modulo kind count (now (cells .entry)) (now (ops .entry)) (now (workers .entry)) (now (keys .entry)) (now (answers .entry))
         r (now (cells .exit)) (now (answers .exit)) ⌝ }
-    ensures promise { λ r. ⌜ (openReply gateway modulo kind count (now (cells .entry)) ≡ Accepted
-        → Claim gateway modulo kind count (now (cells .entry))
-        (dealt gateway modulo kind count (now (cells .entry)) (now (ops .entry)) (now (workers .entry)) (now (keys .entry)) (now (answers .entry)))) ⌝ }
+    ensures promise { λ r. ⌜ Promised gateway modulo kind count (now (cells .entry)) (now (ops .entry)) (now (workers .entry)) (now (keys .entry)) (now (answers .entry)) ⌝ }
 {
-    let ran = runs::run_calls(kind, count, cells, ops, workers, keys, answers);
+    let ran = batch::run_calls(kind, count, cells, ops, workers, keys, answers);
+    let reply = ran.reply;
+    reply_number(reply)
+}
+
+// The same, each call by value with the phase tested at each, as single calls are.
+#[no_mangle]
+pub extern "C" fn vulzegan_run_calls_singly(
+    kind: u64,
+    count: u64,
+    cells: &mut [u32],
+    ops: &[u32],
+    workers: &[u32],
+    keys: &[u32],
+    answers: &mut [u32],
+) -> u32
+    ensures is_run { λ r. ⌜ RunNumbers gateway modulo kind count (now (cells .entry)) (now (ops .entry)) (now (workers .entry)) (now (keys .entry)) (now (answers .entry))
+        r (now (cells .exit)) (now (answers .exit)) ⌝ }
+    ensures promise { λ r. ⌜ Promised gateway modulo kind count (now (cells .entry)) (now (ops .entry)) (now (workers .entry)) (now (keys .entry)) (now (answers .entry)) ⌝ }
+{
+    let ran = batch::run_calls_singly(kind, count, cells, ops, workers, keys, answers);
     let reply = ran.reply;
     reply_number(reply)
 }

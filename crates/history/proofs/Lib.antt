@@ -1,4 +1,5 @@
 pub mod Claim
+pub mod Keeping
 pub mod Lists
 pub mod Opening
 pub mod Pending

@@ -13,7 +13,7 @@ use Rattle.lines.specs.declared.Line.{Line}
 use Rattle.lines.specs.declared.Command.{Command}
 use Rattle.lines.specs.declared.Number.{Number}
 use Rattle.lines.specs.declared.Numbers.{Numbers}
-use Rattle.lines.specs.Grammar.{tabAt, digits, leads, valueFrom, valueOf, numberOf, numbersOf, oneOf, twoOf, wordOf, says, commandOf, takesNone, takesOne, takesTwo, lineOf, readingOf}
+use Rattle.lines.specs.Grammar.{byteAt, digits, leads, valueFrom, valueOf, numberOf, numbersOf, oneOf, twoOf, wordOf, says, commandOf, takesNone, takesOne, takesTwo, lineOf, readingOf}
 use Rattle.lines.specs.Digits.{digitsOf}
 use Rattle.lines.specs.Text.{joined, textOf, readable}
 use Rattle.lines.proofs.Test.{by-test, true-false, both-true}
@@ -179,5 +179,5 @@ pub text-back : (l : List ℕ) → readable (readingOf l) ≡ true → textOf (r
 unfolding readingOf
 text-back l r =
     let f = first-field l in
-    let v : readable (lineOf (commandOf (take (tabAt l) l)) (numbersOf (f .0))) ≡ true = rw (f .1) at r in
-    rw (f .1) (fields-back (take (tabAt l) l) (f .0) v) ∙ ap joined (sym (f .1)) ∙ joined-fields l
+    let v : readable (lineOf (commandOf (take (byteAt 9 l) l)) (numbersOf (f .0))) ≡ true = rw (f .1) at r in
+    rw (f .1) (fields-back (take (byteAt 9 l) l) (f .0) v) ∙ ap joined (sym (f .1)) ∙ joined-fields l

@@ -29,7 +29,7 @@ fn put_refusal(out: &mut [u8], at: usize, why: Refusal) -> usize
     lines::put_number(out, behind, why.number() as u64)
 }
 
-fn put_reply(out: &mut [u8], at: usize, reply: Reply) -> usize
+pub fn put_reply(out: &mut [u8], at: usize, reply: Reply) -> usize
     requires { ⌜ at + 11 ≤ length (now out) ⌝ }
     ensures { λ r. ⌜ Printed (replyFields reply) (now (out .entry)) at (now (out .exit)) r ⌝ }
 {
@@ -52,7 +52,7 @@ fn put_answer(out: &mut [u8], at: usize, answer: Answer) -> usize
     }
 }
 
-fn put_turn(out: &mut [u8], at: usize, reply: TurnReply) -> usize
+pub fn put_turn(out: &mut [u8], at: usize, reply: TurnReply) -> usize
     requires { ⌜ at + 11 ≤ length (now out) ⌝ }
     ensures { λ r. ⌜ Printed (turnFields reply) (now (out .entry)) at (now (out .exit)) r ⌝ }
 {

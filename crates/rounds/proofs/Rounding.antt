@@ -1,23 +1,29 @@
 -- A round in code: one worker after the other takes its turn by itself, and the record is not tested.
-use mathlib.Core.Path.{_≡_, refl, ap, _∙_}
-use mathlib.Core.Bool.{false}
+use mathlib.Core.Path.{_≡_, refl, sym, ap, _∙_}
+use mathlib.Core.Bool.{true, false}
 use mathlib.Core.List.{List}
 use Prim.Native.Nat.{ℕ, _+_, _≤_, _<_}
 use native.Mathlib.Numerals.{add-one}
 use native.Mathlib.Omega.{arith}
 use lib.ListN.{length, getD, set}
+use lib.Seq.{set-getD}
 use Rattle.layout.specs.Home.{modulo}
 use Rattle.state.specs.Limits.{gateway}
 use Rattle.state.specs.Open.{idle}
+use Rattle.state.specs.declared.Activity.the-variants.{Idle}
 use Rattle.state.specs.declared.Phase.{Phase}
-use Rattle.calls.specs.Calls.{withWorker}
+use Rattle.refusals.proofs.WellFormed.{idle-says}
+use Rattle.calls.specs.Calls.{doing, withWorker}
 use Rattle.calls.specs.Split.{oneTurn, oneTable}
+use Rattle.rule.specs.WellFormed.{activityOk}
+use Rattle.calls.specs.WellFormed.{isIdle}
 use Rattle.calls.specs.declared.Moved.{Moved}
 use Rattle.calls.proofs.Turning.{turn-by-one}
+use Rattle.calls.proofs.WellFormed.{good-worker}
 use Rattle.rounds.specs.declared.Finish.{Finish}
 use Rattle.rounds.specs.Reached.{From, Reached}
 use Rattle.rounds.specs.Rounds.{Dealing, unfinished, finishAfter, dealTo, deal, round}
-use Rattle.rounds.proofs.Reached.{passed, formed, sized, crew}
+use Rattle.rounds.proofs.Reached.{passed, formed, sized, crew, accepts}
 use Rattle.rounds.proofs.Settling.{Opened, deal-opened}
 
 -- worker w after its turn, with the rest as it was
@@ -41,6 +47,15 @@ module _ (k m : ℕ) (t : List ℕ) (d : Dealing) (o : Opened k m t d) (w : ℕ)
       let p = d .dealt .phase in
       let (a, b) = turn-by-one gateway p (d .table) w modulo (formed k m t p (d .table) (o .from)) (o .running) (sized k m t p (d .table) (o .from)) l in
       rw (← a, b)
+
+  -- an idle worker's turn changes nothing
+  idle-dealt : w < d .dealt .phase .count → isIdle (doing (d .dealt .phase) w) ≡ true → dealTo w d ≡ d
+  unfolding dealTo
+  idle-dealt l free =
+      let p = d .dealt .phase in
+      let ok = accepts k m t p (d .table) (o .from) w (o .running) l in
+      let a : doing p w ≡ Idle = idle-says (doing p w) .0 free in
+      rw (ok, a, set-getD)
 
 few-workers : (k m : ℕ) (t : List ℕ) (p : Phase) (u : List ℕ) → From k m t p u → p .count ≤ 16
 few-workers k m t p u h = omega (arith, crew k m t p u h, passed k m t p u h .1)
@@ -74,25 +89,27 @@ module _ (d₀ : Dealing) (count : ℕ) where
     here = rw (g .same)
         (deal-opened (g .reached .kind) (g .reached .crew) (g .reached .opened) w d₀ (record { from = from; running = g .running }))
 
-    rounding-on : w < count
-        → let p = d .dealt .phase in
-        let worker = getD (p .workers) w idle in
-        Rounding d₀ count (withMoved d w (oneTurn modulo (p .kind) (p .length) (d .table) worker) (oneTable modulo (p .kind) (p .length) (d .table) worker)) (w + 1)
-    rounding-on l =
-        let i : w < d .dealt .phase .count =
+    below : w < count → w < d .dealt .phase .count
+    below l =
         omega (
           arith,
           g .all,
           crew (g .reached .kind) (g .reached .crew) (g .reached .opened) (d .dealt .phase) (d .table) (here .from),
           crew (g .reached .kind) (g .reached .crew) (g .reached .opened) (d₀ .dealt .phase) (d₀ .table) from,
-        ) in
+        )
+
+    rounding-on : w < count
+        → let p = d .dealt .phase in
+        let worker = getD (p .workers) w idle in
+        Rounding d₀ count (withMoved d w (oneTurn modulo (p .kind) (p .length) (d .table) worker) (oneTable modulo (p .kind) (p .length) (d .table) worker)) (w + 1)
+    rounding-on l =
         record {
           reached = g .reached;
           running = g .running;
           all = g .all;
           few = g .few;
           within = omega arith;
-          same = one-dealt (g .reached .kind) (g .reached .crew) (g .reached .opened) d here w i ∙ ap (dealTo w) (g .same) ∙ unfold deal in (rw add-one);
+          same = one-dealt (g .reached .kind) (g .reached .crew) (g .reached .opened) d here w (below l) ∙ ap (dealTo w) (g .same) ∙ unfold deal in (rw add-one);
         }
 
     -- the same with what the code has found
@@ -104,6 +121,31 @@ module _ (d₀ : Dealing) (count : ℕ) where
         → Rounding d₀ count
         (record { dealt = record { phase = withWorker p w (moved .worker .activity); finishes = set (d .dealt .finishes) w f }; table = u }) (w + 1)
     rounding-next l moved u f a b e = rw (e, a, b) (rounding-on l)
+
+    -- the same with a worker that the code passes over
+    pub rounding-skips : w < count → isIdle (doing (d .dealt .phase) w) ≡ true → Rounding d₀ count d (w + 1)
+    rounding-skips l free =
+        record {
+          reached = g .reached;
+          running = g .running;
+          all = g .all;
+          few = g .few;
+          within = omega arith;
+          same = sym (idle-dealt (g .reached .kind) (g .reached .crew) (g .reached .opened) d here w (below l) free) ∙ ap (dealTo w) (g .same)
+              ∙ unfold deal in (rw add-one);
+        }
+
+    -- what the next worker's turn must find
+    pub rounding-good : w < count
+        → let p = d .dealt .phase in
+        (activityOk (p .kind) (p .length) (doing p w) ≡ true) × (p .length ≡ length (d .table))
+    rounding-good l =
+        let p = d .dealt .phase in
+        let good = formed (g .reached .kind) (g .reached .crew) (g .reached .opened) p (d .table) (here .from) in
+        let b = below l in (
+          good-worker gateway p good w (omega arith),
+          sized (g .reached .kind) (g .reached .crew) (g .reached .opened) p (d .table) (here .from),
+        )
 
     pub rounding-ends : count ≤ w → d ≡ round d₀
     rounding-ends l = let e : w ≡ d₀ .dealt .phase .count = omega (arith, g .all, g .within) in g .same ∙ ap (λ x. deal x d₀) e

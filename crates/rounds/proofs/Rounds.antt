@@ -37,6 +37,13 @@ rounds-more (suc f) d h = by-test (atRest d)
     (λ e. rw e)
     (λ e. let i : suc (left (suc f) (round d)) ≤ suc f = rw e at h in rw (e, rounds-more f (round d) (omega arith)))
 
+pub rests-within : (f : ℕ) (d : Dealing) → left (suc f) d ≤ f → atRest (rounds f d) ≡ true
+unfolding left rounds
+rests-within zero d h = by-test (atRest d) (λ e. e) (λ e. let i : suc (left zero (round d)) ≤ zero = rw e at h in absurd (omega arith))
+rests-within (suc f) d h = by-test (atRest d)
+    (λ e. rw e e)
+    (λ e. let i : suc (left (suc f) (round d)) ≤ suc f = rw e at h in rw e (rests-within f (round d) (omega arith)))
+
 -- ---- one round of those that are left
 module _ (f : ℕ) (d : Dealing) (busy : atRest d ≡ false) (h : left (suc (suc f)) d ≤ suc f) where
   fewer : left (suc f) (round d) < suc f

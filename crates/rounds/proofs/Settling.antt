@@ -31,8 +31,9 @@ use Rattle.rule.specs.Rule.{touched}
 use Rattle.calls.specs.Calls.{doing, movedAt, cellsAt, turned, turnedCells, turnCheck, turnCall, turnTable}
 use Rattle.rounds.specs.Reached.{From, Reached}
 use Rattle.rounds.specs.Rounds.{Dealing, begun, dealTo, deal, round, rounds, enough, run}
+use Rattle.rounds.specs.Promise.{RunPromise}
 use Rattle.rounds.proofs.Reached.{passed, homes, shown, cells, crew, accepts, turn-from, turn-leaves}
-use Rattle.rounds.proofs.Rounds.{by-test, atRest, left, left-falls, left-stays, rounds-stay, rounds-at-rest}
+use Rattle.rounds.proofs.Rounds.{by-test, atRest, left, left-falls, left-stays, rounds-stay, rounds-at-rest, rests-within}
 
 -- ---- a turn leaves the phase open or shut as it was
 moved-shut : (p : Phase) (t : List ℕ) (w : ℕ) (q : Place) → movedAt gateway p t w modulo q .phase .shut ≡ p .shut
@@ -169,6 +170,12 @@ module _ (p : Phase) (u : List ℕ) where
       pub falls : left (suc (enough p)) next < left (suc (enough p)) d
       falls = rw dealt (left-falls (mostRest (p .length) (p .count)) d busy (g .few))
 
+      pub same-count : d .dealt .phase .count ≡ next .dealt .phase .count
+      same-count =
+          let o = deal-opened (g .kind) (g .workers) (g .first) (d .dealt .phase .count) d (g .opened) in
+          crew (g .kind) (g .workers) (g .first) (d .dealt .phase) (d .table) (g .opened .from)
+          ∙ sym (rw dealt (crew (g .kind) (g .workers) (g .first) (round d .dealt .phase) (round d .table) (o .from)))
+
     pub ends : atRest d ≡ true → d ≡ run p u
     ends idle = sym (rounds-at-rest (mostRest (p .length) (p .count)) d idle) ∙ g .same
 
@@ -212,3 +219,7 @@ rounds-length (suc f) d = either (λ (e : Dealing). length (e .table) ≡ length
 
 pub run-length : (p : Phase) (u : List ℕ) → length (run p u .table) ≡ length u
 run-length p u = rounds-length (enough p) (begun p u)
+
+-- ---- all workers are idle where a run ends
+pub run-promise : RunPromise
+run-promise p t h up = rests-within (enough p) (begun p t) (few-rounds (h .kind) (h .crew) (h .opened) p t (h .by) up)

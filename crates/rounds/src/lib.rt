@@ -49,40 +49,34 @@ fn finish_after(before: Finish, reply: TurnReply) -> Finish
     }
 }
 
-// A turn of each worker. The record is not tested: calls have led to it.
-fn round(dealt: Dealt, cells: &mut [u32]) -> Dealt
-    requires { ⌜ Reached (dealt .phase) (now cells) × (dealt .phase .shut ≡ false) ⌝ }
-    ensures { λ r. ⌜ _≡_ {A = Dealing} (record { dealt = r; table = now (cells .exit) }) (Rounds.round (record { dealt = dealt; table = now (cells .entry) })) ⌝ }
-{
-    let mut phase = dealt.phase;
-    let mut finishes = dealt.finishes;
-    let count = phase.count;
-    let mut w: u32 = 0;
-    while w < count {
-        let i = w as usize;
-        let worker = phase.workers[i];
-        let moved = calls::one_turn(phase.kind, phase.length, cells, worker);
-        let next = moved.worker;
-        let reply = moved.reply;
-        let before = finishes[i];
-        phase.workers[i] = next;
-        finishes[i] = finish_after(before, reply);
-        w += 1;
-    }
-    Dealt { phase, finishes }
-}
-
-// Turns in an open phase until all workers are idle.
-pub fn run(phase: Phase, cells: &mut [u32]) -> Dealt
+// Turns in an open phase until all workers are idle. The record is not tested: calls have led to it. A worker that is idle is passed over: its
+// turn would change nothing. One function with both loops, so that the phase is not copied for each round.
+pub fn run(mut phase: Phase, cells: &mut [u32]) -> Dealt
     requires { ⌜ Reached phase (now cells) × (phase .shut ≡ false) ⌝ }
     ensures { λ r. ⌜ _≡_ {A = Dealing} (record { dealt = r; table = now (cells .exit) }) (Rounds.run phase (now (cells .entry))) ⌝ }
 {
-    let finishes = no_finishes();
-    let mut dealt = Dealt { phase, finishes };
-    let mut workers = phase.workers;
-    while !calls::all_idle(workers) {
-        dealt = round(dealt, cells);
-        workers = dealt.phase.workers;
+    let mut finishes = no_finishes();
+    let count = phase.count as usize;
+    loop {
+        let workers = phase.workers;
+        if calls::all_idle(workers) {
+            return Dealt { phase, finishes };
+        }
+        let mut w: usize = 0;
+        while w < count {
+            let worker = phase.workers[w];
+            let activity = worker.activity;
+            if calls::is_idle(activity) {
+                w += 1;
+                continue;
+            }
+            let moved = calls::one_turn(phase.kind, phase.length, cells, worker);
+            let next = moved.worker;
+            let reply = moved.reply;
+            let before = finishes[w];
+            phase.workers[w] = next;
+            finishes[w] = finish_after(before, reply);
+            w += 1;
+        }
     }
-    dealt
 }

@@ -1,36 +1,16 @@
 -- What the function of one call returns is what the call leaves of any history with that phase and table.
-use mathlib.Core.Path.{_≡_, refl, sym, ap, _∙_}
+use mathlib.Core.Path.{_≡_, sym, ap, _∙_}
 use mathlib.Core.List.{List}
 use Prim.Native.Nat.{ℕ}
 use Rattle.state.specs.Limits.{Limits}
 use Rattle.state.specs.Refusals.{replyNumber}
 use Rattle.state.specs.declared.Phase.{Phase}
 use Rattle.state.specs.declared.Replied.{Replied}
-use Rattle.state.specs.declared.Reply.{Reply}
-use Rattle.state.specs.declared.Reply.the-variants.{Accepted, Refused}
 use Rattle.calls.specs.Calls.{closeCall, orderCall, turnCall, turnTable}
-use Rattle.calls.specs.declared.TurnReply.{TurnReply}
-use Rattle.calls.specs.declared.TurnReply.the-variants as turnReply
 use Rattle.calls.specs.declared.Turned.{Turned}
-use Rattle.history.specs.History.{order, turn, close, History, afterOrder, afterTurn, call}
+use Rattle.history.specs.History.{order, turn, close, call}
+use Rattle.history.proofs.Keeping.{order-phase, order-table, turn-phase, turn-table}
 use Rattle.runs.specs.Runs.{turnAnswer, answerOf, Applies}
-
--- ---- whatever the answer, the phase and the table are those given
-order-phase : (w v : ℕ) (p : Phase) (r : Reply) (s : History) → afterOrder w v p r s .phase ≡ p
-order-phase w v p Accepted s = refl
-order-phase w v p (Refused r) s = refl
-
-order-table : (w v : ℕ) (p : Phase) (r : Reply) (s : History) → afterOrder w v p r s .table ≡ s .table
-order-table w v p Accepted s = refl
-order-table w v p (Refused r) s = refl
-
-turn-phase : (w : ℕ) (t : List ℕ) (p : Phase) (r : TurnReply) (s : History) → afterTurn w t p r s .phase ≡ p
-turn-phase w t p (turnReply.Answered a) s = refl
-turn-phase w t p (turnReply.Refused r) s = refl
-
-turn-table : (w : ℕ) (t : List ℕ) (p : Phase) (r : TurnReply) (s : History) → afterTurn w t p r s .table ≡ t
-turn-table w t p (turnReply.Answered a) s = refl
-turn-table w t p (turnReply.Refused r) s = refl
 
 module _ (L : Limits) (home : ℕ → ℕ → ℕ) (p : Phase) (t : List ℕ) where
   pub order-applies : (w v a : ℕ) (r : Replied) → r ≡ orderCall L p home w v → a ≡ replyNumber (r .reply)

@@ -1,3 +1,3 @@
 pub mod Applying
-pub mod Opening
 pub mod Running
+pub mod Singly

@@ -9,8 +9,7 @@ use Rattle.state.specs.Limits.{Limits}
 use Rattle.state.specs.declared.Phase.{Phase}
 use Rattle.history.specs.History.{Call, History, call, run}
 use Rattle.history.proofs.Lists.{run-last}
-use Rattle.runs.specs.Runs.{callOf, callsOf, answerOf, answersOf, Applies, RunsFrom}
-use Rattle.runs.specs.declared.Applied.{Applied}
+use Rattle.runs.specs.Runs.{callOf, callsOf, answerOf, answersOf, Applied, Applies, RunsFrom}
 
 length-calls : (ops workers keys : List ℕ) (i : ℕ) → length (callsOf ops workers keys i) ≡ i
 unfolding callsOf

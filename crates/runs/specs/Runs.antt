@@ -9,17 +9,12 @@ use Rattle.rule.specs.declared.Answer.{Answer}
 use Rattle.rule.specs.declared.Answer.the-variants.{WentOn, Finished, Yes, No}
 use Rattle.rule.specs.declared.Answer.the-variants as answer
 use Rattle.state.specs.Limits.{Limits}
-use Rattle.state.specs.Open.{openReply}
 use Rattle.state.specs.Refusals.{numberOf, replyNumber}
 use Rattle.state.specs.declared.Phase.{Phase}
-use Rattle.state.specs.declared.Replied.{Replied}
-use Rattle.state.specs.declared.Reply.{Reply}
-use Rattle.state.specs.declared.Reply.the-variants.{Accepted, Refused}
 use Rattle.calls.specs.Calls.{closeCall, orderCall, turnCall}
 use Rattle.calls.specs.declared.TurnReply.{TurnReply}
 use Rattle.calls.specs.declared.TurnReply.the-variants as turnReply
-use Rattle.history.specs.History.{Call, order, turn, close, History, call, run, opening}
-use Rattle.runs.specs.declared.Applied.{Applied}
+use Rattle.history.specs.History.{Call, order, turn, close, History, call, run}
 
 -- ---- calls as numbers
 -- 1 is an order of key v for worker w, 2 a turn of worker w, and any other number a close
@@ -52,6 +47,11 @@ abbrev pub turnAnswer : TurnReply → ℕ
 turnAnswer (turnReply.Answered a) = answerNumber a
 turnAnswer (turnReply.Refused r) = numberOf r
 
+-- a phase with the number of the answer of the call that gave it
+pub record Applied : Type 0 where
+  pub phase : Phase
+  pub answer : ℕ
+
 module _ (L : Limits) (home : ℕ → ℕ → ℕ) where
   -- of any call: an order or a close has 0 if it is accepted
   unfoldable pub answerOf : Call → History → ℕ
@@ -83,17 +83,3 @@ module _ (L : Limits) (home : ℕ → ℕ → ℕ) where
 
   abbrev pub RunsFrom : Phase → List ℕ → List Call → List ℕ → Phase → List ℕ → List ℕ → Type 0
   RunsFrom p t cs out p′ t′ out′ = (s : History) → s .phase ≡ p → s .table ≡ t → RunGives cs s out p′ t′ out′
-
-  -- of an opening and the calls after it
-  module _ (k m : ℕ) (t ops workers keys out : List ℕ) where
-    -- none if the opening is refused
-    abbrev pub ifAccepted : Reply → List Call
-    ifAccepted Accepted = callsLent ops workers keys out
-    ifAccepted (Refused r) = []
-
-    abbrev pub dealt : List Call
-    dealt = ifAccepted (openReply L home k m t)
-
-    pub record Ran (r : Replied) (t′ out′ : List ℕ) : Type 0 where
-      pub reply : r .reply ≡ openReply L home k m t
-      pub gives : RunGives dealt (opening L home k m t) out (r .phase) t′ out′

@@ -1,3 +1,4 @@
 pub mod Answering
+pub mod One
 pub mod Store
 pub mod Valid

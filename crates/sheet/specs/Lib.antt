@@ -1,3 +1,4 @@
+pub mod One
 pub mod Replay
 pub mod Store
 pub mod Valid

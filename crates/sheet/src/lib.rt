@@ -6,16 +6,19 @@ use rounds::Finish;
 use state::Phase;
 use state::Refusal;
 use state::Reply;
+use state::Worker;
 ghost use mathlib.Core.Path.{_≡_};
-ghost use mathlib.Core.Bool.{false};
-ghost use Prim.Native.Nat.{_+_, _≤_};
+ghost use mathlib.Core.Bool.{true, false};
+ghost use Prim.Native.Nat.{_+_, _≤_, _<_};
 ghost use lib.ListN.{length, take, replicate};
 ghost use Rattle.layout.specs.Home.{modulo};
+ghost use Rattle.rule.specs.WellFormed.{activityOk};
 ghost use Rattle.state.specs.Limits.{gateway};
 ghost use Rattle.state.specs.Open.{openCall};
 ghost use Rattle.calls.specs.Calls.{closeCall, orderCall};
 ghost use Rattle.sheet.specs.Replay.{blank, inShut, inOpen, readingIn, cellsTask, turnTask, runTask, listTask, calls, performed};
 ghost use Rattle.sheet.specs.Store.{stateOf, replayOf, doneOf, toldOf, Roomy, Runs, Does, Ready, Answers};
+ghost use Rattle.sheet.specs.One.{aimOf, OrderAnswers, TurnAnswers};
 ghost use Rattle.rounds.specs.Reached.{Reached};
 
 // What is kept from line to line, beside the lent cells: the phase, and how many of the cells are the table.
@@ -53,6 +56,26 @@ pub struct Answered {
     pub replay: Replay,
     pub at: usize,
     pub ended: bool,
+}
+
+// A line to one worker of an open phase, an order or a turn; or any other line.
+pub enum Aim {
+    Order(u32, u32),
+    Turn(u32),
+    Other,
+}
+
+// What an order to one worker leaves: the worker, the insert operations left, and the place behind what the line printed.
+pub struct Ordered {
+    pub worker: Worker,
+    pub left: u32,
+    pub at: usize,
+}
+
+// What a turn of one worker leaves: the worker, and the place behind what the line printed.
+pub struct Stepped {
+    pub worker: Worker,
+    pub at: usize,
 }
 
 // A replay before its first line. An opening on one cell is refused.
@@ -282,5 +305,88 @@ pub fn answer(
         replay: next,
         at: end,
         ended: false,
+    }
+}
+
+// ---- lines to one worker of an open phase, for a loop that keeps the phase in place: only the worker goes by value
+pub fn aim_of(line: Line, shut: bool, count: u32) -> Aim
+    ensures { λ r. ⌜ r ≡ aimOf line shut count ⌝ }
+{
+    if shut {
+        return Aim::Other;
+    }
+    match line {
+        Line::Order(worker, key) => {
+            if worker < count {
+                return Aim::Order(worker, key);
+            }
+            Aim::Other
+        }
+        Line::Turn(worker) => {
+            if worker < count {
+                return Aim::Turn(worker);
+            }
+            Aim::Other
+        }
+        Line::Cells(_) => Aim::Other,
+        Line::Open(_, _) => Aim::Other,
+        Line::Run => Aim::Other,
+        Line::Close => Aim::Other,
+        Line::List => Aim::Other,
+        Line::BadOrder => Aim::Other,
+        Line::Bad => Aim::Other,
+    }
+}
+
+// Answers the line `number`, an order of `key` to this worker, and prints from `at` on.
+pub fn answer_order(
+    kind: u32,
+    size: u32,
+    left: u32,
+    worker: Worker,
+    key: u32,
+    number: u64,
+    out: &mut [u8],
+    at: usize,
+) -> Ordered
+    requires { ⌜ (0 < size) × (at + 45200 ≤ length (now out)) ⌝ }
+    ensures { λ r. ⌜ OrderAnswers kind size left worker key number (now (out .entry)) at (now (out .exit)) r ⌝ }
+{
+    let from = lines::put_number(out, at, number);
+    let given = calls::one_order(kind, size, left, worker, key);
+    let next = given.worker;
+    let reply = given.reply;
+    let behind = printing::put_reply(out, from, reply);
+    let end = lines::put_bytes(out, behind, b"\n");
+    Ordered {
+        worker: next,
+        left: given.left,
+        at: end,
+    }
+}
+
+// Answers the line `number`, a turn of this worker on the first `places` cells, and prints from `at` on.
+pub fn answer_turn(
+    kind: u32,
+    size: u32,
+    worker: Worker,
+    number: u64,
+    cells: &mut [u32],
+    places: usize,
+    out: &mut [u8],
+    at: usize,
+) -> Stepped
+    requires { ⌜ (activityOk kind size (worker .activity) ≡ true) × ((size ≡ places) × ((places ≤ length (now cells)) × (at + 45200 ≤ length (now out)))) ⌝ }
+    ensures { λ r. ⌜ TurnAnswers kind size worker number places (now (cells .entry)) (now (out .entry)) at (now (cells .exit)) (now (out .exit)) r ⌝ }
+{
+    let from = lines::put_number(out, at, number);
+    let moved = calls::one_turn(kind, size, &mut cells[..places], worker);
+    let next = moved.worker;
+    let reply = moved.reply;
+    let behind = printing::put_turn(out, from, reply);
+    let end = lines::put_bytes(out, behind, b"\n");
+    Stepped {
+        worker: next,
+        at: end,
     }
 }

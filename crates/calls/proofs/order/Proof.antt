@@ -1,157 +1,151 @@
-use mathlib.Core.Path.{sym, _∙_}
+-- The loop's invariant: the phase is well formed if the workers not yet passed are.
+use Prim.Native.Nat.{_-_}
+use mathlib.Core.Path.{sym, _∙_, ap}
 use native.Mathlib.Omega.{arith}
 use borrow.Author.Needs.{needs}
-use borrow.Author.Tests.{not-true, not-false, eq-eqb, le-leb, lt-leb}
+use borrow.Author.Tests.{not-true, not-false, le-leb}
+use lib.ListN.{length-map}
 use Rattle.layout.specs.Home.{modulo}
 use Rattle.state.specs.Limits.{gateway}
-use Rattle.state.specs.declared.Refusal.the-variants.{NoWorker, Blank, Busy, Full, Shut, Spoilt}
-use Rattle.calls.proofs.Ordering.{order-refused, order-full, order-accepted}
-use Rattle.calls.proofs.WellFormed.{well-formed}
+use Rattle.state.specs.declared.Refusal.the-variants.{NoWorker, Shut, Spoilt}
+use Rattle.calls.proofs.Ordering.{with-given, order-refused, order-by-one}
+use Rattle.calls.proofs.WellFormed.{well-formed, ill-by-numbers, Passed, none-passed, fails, passes, passed-all}
 use Rattle.calls.proofs.order.Statement.{statement}
 use Rattle.calls.proofs.order.Tie as tie
 
-is-well-formed-requires : tie.Need-is-well-formed-requires
-is-well-formed-requires c κs = search needs
+abbrev Inv-loop : tie.InvT-loop
+Inv-loop worker key p i₀ i = Passed gateway p i
 
-refused-requires : tie.Need-refused-requires
+abbrev μ-loop : tie.MeasureT-loop
+μ-loop worker key p i₀ i = 16 - i
+
+numbers-ok-requires : tie.Need-numbers-ok-requires Inv-loop μ-loop
+numbers-ok-requires c κs = search needs
+
+refused-requires : tie.Need-refused-requires Inv-loop μ-loop
 refused-requires c κs = search needs
 
-returns : tie.Need-returns
+returns : tie.Need-returns Inv-loop μ-loop
 returns c =
     let a = c .before .before .before .args in
     order-refused gateway (a .t1) modulo (a .worker) (a .key) _ Spoilt (c .refused .ensures)
-    (simp (sym (c .before .before .is-well-formed .ensures) ∙ not-true _ (c .before .if1 .taken)))
+    (simp (ill-by-numbers gateway (a .t1) (sym (c .before .before .numbers-ok .ensures) ∙ not-true _ (c .before .if1 .taken))))
 
-refused-requires-2 : tie.Need-refused-requires-2
+loop-holds : tie.Need-loop-holds Inv-loop μ-loop
+loop-holds c =
+    let array = c .before .before .good .0 .1 .1 .1 .1 .1 .1 .1 .0 .1 .0 .1 in
+    none-passed _ _ (sym (c .before .numbers-ok .ensures) ∙ not-false _ (c .if1 .left)) (simp length-map at array)
+
+mul-w : tie.Need-mul-w Inv-loop μ-loop
+mul-w c = omega arith
+
+element-copy-out-w : tie.Need-element-copy-out-w Inv-loop μ-loop
+element-copy-out-w c = omega arith
+
+cast-worker-ok : tie.Need-cast-worker-ok Inv-loop μ-loop
+cast-worker-ok c = search needs
+
+worker-ok-requires : tie.Need-worker-ok-requires Inv-loop μ-loop
+worker-ok-requires c κs = search needs
+
+refused-requires-2 : tie.Need-refused-requires-2 Inv-loop μ-loop
 refused-requires-2 c κs = search needs
 
-returns-2 : tie.Need-returns-2
+returns-2 : tie.Need-returns-2 Inv-loop μ-loop
 returns-2 c =
-    let a = c .before .before .before .before .args in
-    order-refused gateway (a .t1) modulo (a .worker) (a .key) _ Shut (c .refused2 .ensures)
-    (simp (sym (c .before .before .before .is-well-formed .ensures) ∙ not-false _ (c .before .before .if1 .left), c .before .if2 .taken))
-
-cast-if3 : tie.Need-cast-if3
-cast-if3 c = search needs
-
-refused-requires-3 : tie.Need-refused-requires-3
-refused-requires-3 c κs = search needs
-
-returns-3 : tie.Need-returns-3
-returns-3 c =
-    let a = c .before .before .before .before .before .args in
-    order-refused gateway (a .t1) modulo (a .worker) (a .key) _ NoWorker (c .refused3 .ensures)
-    (simp (sym (c .before .before .before .before .is-well-formed .ensures) ∙ not-false _ (c .before .before .before .if1 .left), c .before .before .if2 .left, le-leb _ _ (c .before .if3 .taken)))
-
-mul-ordered : tie.Need-mul-ordered
-mul-ordered c = search needs
-
-element-copy-out-ordered : tie.Need-element-copy-out-ordered
-element-copy-out-ordered c =
-    let a = c .before .before .before .before .args in
-    let w = well-formed gateway (a .t1) (sym (c .before .before .before .is-well-formed .ensures) ∙ not-false _ (c .before .before .if1 .left)) in omega arith
-
-is-idle-requires : tie.Need-is-idle-requires
-is-idle-requires c κs = search needs
-
-refused-requires-4 : tie.Need-refused-requires-4
-refused-requires-4 c κs = search needs
-
-returns-4 : tie.Need-returns-4
-returns-4 c =
     let b = c .before .before .before .before .before in
     let a = b .before .before .before .args in
-    order-refused gateway (a .t1) modulo (a .worker) (a .key) _ Busy (c .refused4 .ensures)
-    (simp (
-      sym (b .before .before .is-well-formed .ensures) ∙ not-false _ (b .before .if1 .left),
-      b .if2 .left,
-      lt-leb _ _ (c .before .before .before .before .if3 .left),
-      sym (c .before .before .is-idle .ensures) ∙ not-true _ (c .before .if4 .taken),
-    ))
+    order-refused gateway (a .t1) modulo (a .worker) (a .key) _ Spoilt (c .refused2 .ensures)
+    (simp (fails gateway (a .t1) _ (b .loop .inv) (c .before .before .before .before .loop-test .taken) _
+    (c .before .before .worker-ok .ensures) (not-true _ (c .before .if2 .taken))))
 
-refused-requires-5 : tie.Need-refused-requires-5
-refused-requires-5 c κs = search needs
+add-i : tie.Need-add-i Inv-loop μ-loop
+add-i c = omega arith
 
-returns-5 : tie.Need-returns-5
+loop-less : tie.Need-loop-less Inv-loop μ-loop
+loop-less c = omega arith
+
+loop-again : tie.Need-loop-again Inv-loop μ-loop
+loop-again c = passes _ _ _ (c .before .before .before .before .loop .inv) (c .before .before .before .loop-test .taken) _ (c .before .worker-ok .ensures) (not-false _ (c .if2 .left))
+
+refused-requires-3 : tie.Need-refused-requires-3 Inv-loop μ-loop
+refused-requires-3 c κs = search needs
+
+returns-3 : tie.Need-returns-3 Inv-loop μ-loop
+returns-3 c =
+    let a = c .before .before .before .before .before .before .args in
+    order-refused gateway (a .t1) modulo (a .worker) (a .key) _ Shut (c .refused3 .ensures)
+    (simp (passed-all _ _ _ (c .before .before .before .loop .inv) (c .before .before .loop-test .left), c .before .if3 .taken))
+
+cast-if4 : tie.Need-cast-if4 Inv-loop μ-loop
+cast-if4 c = search needs
+
+refused-requires-4 : tie.Need-refused-requires-4 Inv-loop μ-loop
+refused-requires-4 c κs = search needs
+
+returns-4 : tie.Need-returns-4 Inv-loop μ-loop
+returns-4 c =
+    let a = c .before .before .before .before .before .before .before .args in
+    order-refused gateway (a .t1) modulo (a .worker) (a .key) _ NoWorker (c .refused4 .ensures)
+    (simp (passed-all _ _ _ (c .before .before .before .before .loop .inv) (c .before .before .before .loop-test .left), c .before .before .if3 .left, le-leb _ _ (c .before .if4 .taken)))
+
+mul-one-order : tie.Need-mul-one-order Inv-loop μ-loop
+mul-one-order c = search needs
+
+element-copy-out-one-order : tie.Need-element-copy-out-one-order Inv-loop μ-loop
+element-copy-out-one-order c =
+    let a = c .before .before .before .before .before .before .args in
+    let w = well-formed gateway (a .t1) (passed-all _ _ _ (c .before .before .before .loop .inv) (c .before .before .loop-test .left)) in omega arith
+
+one-order-requires : tie.Need-one-order-requires Inv-loop μ-loop
+one-order-requires c κs =
+    let a = c .before .before .before .before .before .before .before .args in
+    let w = well-formed gateway (a .t1) (passed-all _ _ _ (c .before .before .before .before .loop .inv) (c .before .before .before .loop-test .left)) in omega arith
+
+mul-next : tie.Need-mul-next Inv-loop μ-loop
+mul-next c = search needs
+
+element-set-from-next : tie.Need-element-set-from-next Inv-loop μ-loop
+element-set-from-next c =
+    let d = c .before .before .before .before .before in
+    let a = d .before .before .before .before .args in
+    let w = well-formed gateway (a .t1) (passed-all _ _ _ (d .before .loop .inv) (d .loop-test .left)) in omega arith
+
+returns-5 : tie.Need-returns-5 Inv-loop μ-loop
 returns-5 c =
-    let b = c .before .before .before .before .before in
-    let a = b .before .before .before .before .args in
-    order-refused gateway (a .t1) modulo (a .worker) (a .key) _ Blank (c .refused5 .ensures)
-    (simp (
-      sym (b .before .before .before .is-well-formed .ensures) ∙ not-false _ (b .before .before .if1 .left),
-      b .before .if2 .left,
-      lt-leb _ _ (b .if3 .left),
-      sym (c .before .before .before .is-idle .ensures) ∙ not-false _ (c .before .before .if4 .left),
-      eq-eqb _ _ (c .before .if5 .taken),
-    ))
-
-is-full-requires : tie.Need-is-full-requires
-is-full-requires c κs = search needs
-
-refused-requires-6 : tie.Need-refused-requires-6
-refused-requires-6 c κs = search needs
-
-returns-6 : tie.Need-returns-6
-returns-6 c =
-    let b = c .before .before .before .before .before in let d = b .before .before .before .before .before in
-    let a = d .before .args in
-    order-refused gateway (a .t1) modulo (a .worker) (a .key) _ Full (c .refused6 .ensures)
-    (order-full gateway (a .t1) modulo (a .worker) (a .key) (sym (d .is-well-formed .ensures) ∙ not-false _ (b .before .before .before .before .if1 .left))
-    (b .before .before .before .if2 .left) (b .before .before .if3 .left)
-    (sym (b .is-idle .ensures) ∙ not-false _ (c .before .before .before .before .if4 .left))
-    (c .before .before .before .if5 .left) _ (c .before .before .is-full .ensures) (c .before .if6 .taken))
-
-rem-cell : tie.Need-rem-cell
-rem-cell c =
-    let b = c .before .before .before .before .before in let d = b .before .before .before .before .before in
-    let a = d .args in
-    let w = well-formed gateway (a .t1) (sym (b .before .before .before .before .is-well-formed .ensures) ∙ not-false _ (b .before .before .before .if1 .left)) in omega arith
-
-left-after-requires : tie.Need-left-after-requires
-left-after-requires c κs = search needs
-
-mul-t16 : tie.Need-mul-t16
-mul-t16 c = search needs
-
-element-set-from-phase : tie.Need-element-set-from-phase
-element-set-from-phase c =
-    let b = c .before .before .before .before .before in let d = b .before .before .before .before .before in
-    let a = d .before .args in
-    let w = well-formed gateway (a .t1) (sym (d .is-well-formed .ensures) ∙ not-false _ (b .before .before .before .before .if1 .left)) in omega arith
-
-returns-7 : tie.Need-returns-7
-returns-7 c =
-    let b = c .before .before .before .before .before in let d = b .before .before .before .before .before in
-    let a = d .before .args in
-    order-accepted gateway (a .t1) modulo (a .worker) (a .key) (sym (d .is-well-formed .ensures) ∙ not-false _ (b .before .before .before .before .if1 .left))
-    (b .before .before .before .if2 .left) (b .before .before .if3 .left)
-    (sym (b .is-idle .ensures) ∙ not-false _ (c .before .before .before .before .if4 .left))
-    (c .before .before .before .if5 .left) _ (c .before .before .is-full .ensures) (c .before .if6 .left) _ (c .left-after .ensures)
+    let d = c .before .before .before .before .before in
+    let a = d .before .before .before .before .args in
+    ap (with-given (a .t1) (a .worker)) (c .before .one-order .ensures)
+    ∙ order-by-one gateway (a .t1) modulo (a .worker) (a .key) (passed-all _ _ _ (d .before .loop .inv) (d .loop-test .left))
+    (c .before .before .before .before .if3 .left) (c .before .before .before .if4 .left)
 
 pub order-spec : {M : Type 1} → statement M
 order-spec =
     tie.close
     (tie.spec
-    is-well-formed-requires
+    Inv-loop
+    μ-loop
+    numbers-ok-requires
     refused-requires
     returns
+    loop-holds
+    mul-w
+    element-copy-out-w
+    cast-worker-ok
+    worker-ok-requires
     refused-requires-2
     returns-2
-    cast-if3
+    add-i
+    loop-less
+    loop-again
     refused-requires-3
     returns-3
-    mul-ordered
-    element-copy-out-ordered
-    is-idle-requires
+    cast-if4
     refused-requires-4
     returns-4
-    refused-requires-5
-    returns-5
-    is-full-requires
-    refused-requires-6
-    returns-6
-    rem-cell
-    left-after-requires
-    mul-t16
-    element-set-from-phase
-    returns-7)
+    mul-one-order
+    element-copy-out-one-order
+    one-order-requires
+    mul-next
+    element-set-from-next
+    returns-5)

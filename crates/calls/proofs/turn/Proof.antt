@@ -9,7 +9,7 @@ use Rattle.layout.specs.Home.{modulo}
 use Rattle.state.specs.Limits.{gateway}
 use Rattle.state.specs.declared.Refusal.the-variants.{OtherTable, NoWorker, Shut, Spoilt}
 use Rattle.calls.proofs.Turning.{with-moved, turn-refused, turn-by-one}
-use Rattle.calls.proofs.WellFormed.{well-formed, ill-by-numbers, Passed, none-passed, fails, passes, passed-all}
+use Rattle.calls.proofs.WellFormed.{good-worker, well-formed, ill-by-numbers, Passed, none-passed, fails, passes, passed-all}
 use Rattle.calls.proofs.turn.Statement.{statement}
 use Rattle.calls.proofs.turn.Tie as tie
 
@@ -114,7 +114,12 @@ element-copy-out-one-turn c =
     let w = well-formed gateway (a .t1) (passed-all _ _ _ (c .before .before .before .before .before .loop .inv) (c .before .before .before .before .loop-test .left)) in omega arith
 
 one-turn-requires : tie.Need-one-turn-requires Inv-loop μ-loop
-one-turn-requires c κs = search needs
+one-turn-requires c κs =
+    let d = c .before .before in
+    let a = d .before .before .before .before .before .before .before .before .args in (
+      good-worker gateway (a .t1) (passed-all _ _ _ (d .before .before .before .before .loop .inv) (d .before .before .before .loop-test .left)) (a .worker) (d .if5 .left),
+      d .before .if4 .left,
+    )
 
 mul-next : tie.Need-mul-next Inv-loop μ-loop
 mul-next c = search needs

@@ -1,5 +1,4 @@
-use mathlib.Core.Path.{_∙_, ap}
-use Rattle.state.specs.Refusals.{replyNumber}
+use Rattle.exports.proofs.Numbering.{numbered}
 use borrow.Author.Needs.{needs}
 use Rattle.exports.proofs.vulzegan_run_calls.Statement.{statement}
 use Rattle.exports.proofs.vulzegan_run_calls.Tie as tie
@@ -17,9 +16,7 @@ same-length-2 : tie.Need-same-length-2
 same-length-2 c = search needs
 
 returns : tie.Need-returns
-returns c =
-    let ran = c .before .before .before .before .before .run-calls .ensures in
-    (record { reply = c .reply-number .ensures ∙ ap replyNumber (ran .0 .reply); table = ran .0 .gives .table; answers = ran .0 .gives .answers }, ran .1)
+returns c = let ran = c .before .before .before .before .before .run-calls .ensures in (numbered (c .reply-number .ensures) (ran .0), ran .1)
 
 pub vulzegan-run-calls-spec : {M : Type 1} → statement M
 vulzegan-run-calls-spec =

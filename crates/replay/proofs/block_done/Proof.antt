@@ -1,113 +1,102 @@
-use mathlib.Core.Path.{sym, _∙_}
+use mathlib.Core.Path.{_∙_}
 use Prim.Native.Nat.{_-_, _≤_}
 use native.Mathlib.Omega.{arith}
 use lib.ListN.{length}
-use lib.Seq.{length-take-le}
 use borrow.Author.Needs.{needs}
-use Rattle.replay.proofs.Block.{Block}
+use Rattle.blocks.specs.Kept.{keptOf}
+use Rattle.blocks.proofs.Filling.{Behind, behind-none, Same, same-none, same-on, fits, rest-long}
+use Rattle.replay.proofs.Passing.{filled-within, filled-on, passes, passes-ended, passes-failed}
 use Rattle.replay.proofs.block_done.Statement.{statement}
 use Rattle.replay.proofs.block_done.Tie as tie
 
 abbrev Inv-loop : tie.InvT-loop
-Inv-loop block line₀ cells₀ out₀ replay₀ number₀ len₀ at₀ from₀ line cells out replay number len at from =
-    Block block line₀ cells₀ out₀ number₀ line cells out replay number len at from
+Inv-loop block line₀ cells₀ out₀ kept₀ from₀ line cells out kept from =
+    Behind (keptOf kept₀ line₀ cells₀) block line cells kept from × (45200 ≤ length out × Same line₀ cells₀ out₀ line cells out)
 
 abbrev μ-loop : tie.MeasureT-loop
-μ-loop block line₀ cells₀ out₀ replay₀ number₀ len₀ at₀ from₀ line cells out replay number len at from =
-    length block - from
+μ-loop block line₀ cells₀ out₀ kept₀ from₀ line cells out kept from = length block - from
 
 loop-holds : tie.Need-loop-holds Inv-loop μ-loop
-loop-holds c = search needs
+loop-holds c =
+    let s = c .before .before .before .before .pre in
+    (behind-none (s .0), (s .1, same-none))
 
-gather-requires : tie.Need-gather-requires Inv-loop μ-loop
-gather-requires c κs = search needs
+sub-fill : tie.Need-sub-fill Inv-loop μ-loop
+sub-fill c = search needs
+
+part-fill-start : tie.Need-part-fill-start Inv-loop μ-loop
+part-fill-start c = search needs
+
+part-fill-end : tie.Need-part-fill-end Inv-loop μ-loop
+part-fill-end c = search needs
+
+fill-requires : tie.Need-fill-requires Inv-loop μ-loop
+fill-requires c κs =
+    let v = c .before .before .before .before .before .loop .inv in
+    let l = rest-long (v .0) in
+    (fits (v .0) _ (omega (arith, l, v .0 .within)), (omega (arith, l, c .before .before .before .before .loop-test .taken), v .1 .0))
+
+-- ---- behind a buffer that was filled
+-- the loop's head before it
+abbrev head : tie.After-fill Inv-loop μ-loop → tie.At-loop Inv-loop μ-loop
+head c = c .before .before .before .before .before .before
+
+add-from : tie.Need-add-from Inv-loop μ-loop
+add-from c =
+    let x = c .before .before .before .before .before .before .before .before in
+    omega (arith, filled-within (head x .loop .inv .0) (x .fill .ensures))
 
 flush-requires : tie.Need-flush-requires Inv-loop μ-loop
-flush-requires c κs = search needs
+flush-requires c κs = c .before .before .before .before .before .before .before .before .before .fill .ensures .room
 
 same-length : tie.Need-same-length Inv-loop μ-loop
-same-length c = search needs
+same-length c = let x = c .before .before .before .before .before .before .before .before .before .before .before in x .fill .kept .1 .1 .0 ∙ head x .loop .inv .1 .1 .same-line
 
 same-length-2 : tie.Need-same-length-2 Inv-loop μ-loop
-same-length-2 c = search needs
+same-length-2 c = let x = c .before .before .before .before .before .before .before .before .before .before .before in x .fill .kept .1 .1 .1 .0 ∙ head x .loop .inv .1 .1 .same-cells
 
 same-length-3 : tie.Need-same-length-3 Inv-loop μ-loop
-same-length-3 c = search needs
+same-length-3 c = let x = c .before .before .before .before .before .before .before .before .before .before .before in x .fill .kept .1 .1 .1 .1 .0 ∙ head x .loop .inv .1 .1 .same-out
 
 returns : tie.Need-returns Inv-loop μ-loop
-returns c = search needs
-
-add-number : tie.Need-add-number Inv-loop μ-loop
-add-number c = search needs
-
-slice-reshare-prefix-line-done : tie.Need-slice-reshare-prefix-line-done Inv-loop μ-loop
-slice-reshare-prefix-line-done c = search needs
-
-slice-aggregate-line-done : tie.Need-slice-aggregate-line-done Inv-loop μ-loop
-slice-aggregate-line-done c =
-    let g = c .before .before .before .before .before .gather in
-    let l : g .result .len ≤ length (g .last .1 .1 .0) = omega (
-      arith,
-      g .ensures .gathered,
-      g .kept .1 .1 .0,
-      c .before .before .before .before .before .before .before .before .loop .inv .line-long,
-    ) in
-    sym (length-take-le _ _ l)
-
-line-done-requires : tie.Need-line-done-requires Inv-loop μ-loop
-line-done-requires c κs = search needs
-
-flush-requires-2 : tie.Need-flush-requires-2 Inv-loop μ-loop
-flush-requires-2 c κs = search needs
+returns c = let x = c .before .before .before .before .before .before .before .before .before .before .before in passes-failed (head x .loop .inv .0) (x .fill .ensures)
 
 same-length-4 : tie.Need-same-length-4 Inv-loop μ-loop
-same-length-4 c = search needs
+same-length-4 c = let x = c .before .before .before .before .before .before .before .before .before .before .before .before in x .fill .kept .1 .1 .0 ∙ head x .loop .inv .1 .1 .same-line
 
 same-length-5 : tie.Need-same-length-5 Inv-loop μ-loop
-same-length-5 c = search needs
+same-length-5 c = let x = c .before .before .before .before .before .before .before .before .before .before .before .before in x .fill .kept .1 .1 .1 .0 ∙ head x .loop .inv .1 .1 .same-cells
 
 same-length-6 : tie.Need-same-length-6 Inv-loop μ-loop
-same-length-6 c = search needs
+same-length-6 c = let x = c .before .before .before .before .before .before .before .before .before .before .before .before in x .fill .kept .1 .1 .1 .1 .0 ∙ head x .loop .inv .1 .1 .same-out
 
 returns-2 : tie.Need-returns-2 Inv-loop μ-loop
-returns-2 c = search needs
+returns-2 c = let x = c .before .before .before .before .before .before .before .before .before .before .before .before in passes-ended (head x .loop .inv .0) (x .fill .ensures) (c .if2 .taken)
 
 loop-less : tie.Need-loop-less Inv-loop μ-loop
-loop-less c = search needs
+loop-less c =
+    let x = c .before .before .before .before .before .before .before .before .before .before .before .before in
+    omega (arith, x .fill .ensures .on, filled-within (head x .loop .inv .0) (x .fill .ensures))
 
 loop-again : tie.Need-loop-again Inv-loop μ-loop
 loop-again c =
-    let g = c .before .before .before .before .before .before .before .before .before .before .before .before .before .before .gather in
-    let d = c .before .before .before .before .before .before .line-done in
-    let v = c .before .before .before .before .before .before .before .before .before .before .before .before .before .before .before .before .before .loop .inv in
-    record {
-      ready = d .ensures .0;
-      gathered = omega arith;
-      line-long = omega (arith, g .kept .1 .1 .0, v .line-long);
-      buffer = omega (arith, d .kept .1 .1 .1 .1 .0, v .buffer);
-      printed = d .ensures .1;
-      few = omega (arith, v .few, g .ensures .on);
-      fits = v .fits;
-      within = g .ensures .within;
-      same-line = g .kept .1 .1 .0 ∙ v .same-line;
-      same-cells = d .kept .1 .1 .1 .0 ∙ v .same-cells;
-      same-out = d .kept .1 .1 .1 .1 .0 ∙ v .same-out;
-    }
-
-flush-requires-3 : tie.Need-flush-requires-3 Inv-loop μ-loop
-flush-requires-3 c κs = search needs
+    let x = c .before .before .before .before .before .before .before .before .before .before .before .before in
+    let v = head x .loop .inv in
+    let line = x .fill .kept .1 .1 .0 in
+    let out = x .fill .kept .1 .1 .1 .1 .0 in
+    (filled-on (v .0) (x .fill .ensures) line (c .if2 .left), (omega (arith, out, v .1 .0), same-on (v .1 .1) line (x .fill .kept .1 .1 .1 .0) out))
 
 same-length-7 : tie.Need-same-length-7 Inv-loop μ-loop
-same-length-7 c = search needs
+same-length-7 c = c .before .loop .inv .1 .1 .same-line
 
 same-length-8 : tie.Need-same-length-8 Inv-loop μ-loop
-same-length-8 c = search needs
+same-length-8 c = c .before .loop .inv .1 .1 .same-cells
 
 same-length-9 : tie.Need-same-length-9 Inv-loop μ-loop
-same-length-9 c = search needs
+same-length-9 c = c .before .loop .inv .1 .1 .same-out
 
 returns-3 : tie.Need-returns-3 Inv-loop μ-loop
-returns-3 c = search needs
+returns-3 c = passes (c .before .loop .inv .0) (c .loop-test .left)
 
 pub block-done-spec : {M : Type 1} → statement M
 block-done-spec =
@@ -116,24 +105,22 @@ block-done-spec =
     Inv-loop
     μ-loop
     loop-holds
-    gather-requires
+    sub-fill
+    part-fill-start
+    part-fill-end
+    fill-requires
+    add-from
     flush-requires
     same-length
     same-length-2
     same-length-3
     returns
-    add-number
-    slice-reshare-prefix-line-done
-    slice-aggregate-line-done
-    line-done-requires
-    flush-requires-2
     same-length-4
     same-length-5
     same-length-6
     returns-2
     loop-less
     loop-again
-    flush-requires-3
     same-length-7
     same-length-8
     same-length-9

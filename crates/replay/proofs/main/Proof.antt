@@ -1,19 +1,23 @@
-use Rattle.sheet.proofs.Valid.{blank-ready}
+use mathlib.Core.Path.{_≡_, ap, _∙_}
+use mathlib.Core.List.{[]}
+use Rattle.feed.specs.Feed.{Kept}
 use native.Mathlib.Omega.{arith}
 use borrow.Author.Needs.{needs}
-use Rattle.replay.proofs.Block.{Reading}
+use Rattle.replay.proofs.Reading.{Reading}
 use Rattle.replay.proofs.main.Statement.{statement}
 use Rattle.replay.proofs.main.Tie as tie
 
 abbrev Inv-loop : tie.InvT-loop
-Inv-loop cells₀ out₀ line₀ carried₀ left₀ cells out line carried left =
-    Reading cells out line carried left
+Inv-loop cells₀ block₀ out₀ line₀ carried₀ left₀ cells block out line carried left = Reading cells block out line carried left
 
 abbrev μ-loop : tie.MeasureT-loop
-μ-loop cells₀ out₀ line₀ carried₀ left₀ cells out line carried left = left
+μ-loop cells₀ block₀ out₀ line₀ carried₀ left₀ cells block out line carried left = left
 
 large-buffer-requires : tie.Need-large-buffer-requires Inv-loop μ-loop
 large-buffer-requires c κs = search needs
+
+large-buffer-requires-2 : tie.Need-large-buffer-requires-2 Inv-loop μ-loop
+large-buffer-requires-2 c κs = search needs
 
 start-requires : tie.Need-start-requires Inv-loop μ-loop
 start-requires c κs = search needs
@@ -21,28 +25,51 @@ start-requires c κs = search needs
 loop-holds : tie.Need-loop-holds Inv-loop μ-loop
 loop-holds c =
     record {
-      ready = blank-ready _ _ (c .start .ensures) (search needs);
-      gathered = search needs;
-      few = search needs;
+      held = c .start .ensures .held _ (search needs);
+      goes = ap (λ (k : Kept). k .ended) (c .start .ensures .kept [] []);
+      few = let e : c .start .result .number ≡ 0 = ap (λ (k : Kept). k .number) (c .start .ensures .kept [] []) in omega (arith, e);
       cells-long = search needs;
+      block-long = search needs;
       out-long = search needs;
       line-long = search needs;
     }
 
-slice-aggregate-read-some : tie.Need-slice-aggregate-read-some Inv-loop μ-loop
-slice-aggregate-read-some c = search needs
+slice-aggregate-read : tie.Need-slice-aggregate-read Inv-loop μ-loop
+slice-aggregate-read c = search needs
 
-slice-aggregate-read-some-2 : tie.Need-slice-aggregate-read-some-2 Inv-loop μ-loop
-slice-aggregate-read-some-2 c = search needs
+read-requires : tie.Need-read-requires Inv-loop μ-loop
+read-requires c κs = search needs
 
-slice-aggregate-read-some-3 : tie.Need-slice-aggregate-read-some-3 Inv-loop μ-loop
-slice-aggregate-read-some-3 c = search needs
+slice-aggregate-read-done : tie.Need-slice-aggregate-read-done Inv-loop μ-loop
+slice-aggregate-read-done c = search needs
 
-read-some-requires : tie.Need-read-some-requires Inv-loop μ-loop
-read-some-requires c κs = search needs
+slice-aggregate-read-done-2 : tie.Need-slice-aggregate-read-done-2 Inv-loop μ-loop
+slice-aggregate-read-done-2 c = search needs
+
+slice-aggregate-read-done-3 : tie.Need-slice-aggregate-read-done-3 Inv-loop μ-loop
+slice-aggregate-read-done-3 c = search needs
+
+slice-aggregate-read-done-4 : tie.Need-slice-aggregate-read-done-4 Inv-loop μ-loop
+slice-aggregate-read-done-4 c = search needs
+
+read-done-requires : tie.Need-read-done-requires Inv-loop μ-loop
+read-done-requires c κs =
+    let v = c .before .before .before .before .before .before .before .before .loop .inv in
+    let l = c .before .before .before .before .before .read .kept .1 .0 in (
+      record {
+        held = v .held;
+        goes = v .goes;
+        line-long = omega (arith, v .line-long);
+        countable = omega (arith, v .few, v .block-long, l, c .before .before .before .before .before .before .before .loop-test .taken);
+      },
+      omega (arith, v .out-long),
+    )
 
 returns : tie.Need-returns Inv-loop μ-loop
 returns c = search needs
+
+returns-2 : tie.Need-returns-2 Inv-loop μ-loop
+returns-2 c = search needs
 
 slice-aggregate-last-line : tie.Need-slice-aggregate-last-line Inv-loop μ-loop
 slice-aggregate-last-line c = search needs
@@ -55,26 +82,31 @@ slice-aggregate-last-line-3 c = search needs
 
 last-line-requires : tie.Need-last-line-requires Inv-loop μ-loop
 last-line-requires c κs =
-    let r = c .before .before .before .before .before .before .before .before .before .read-some in
-    let v = c .before .before .before .before .before .before .before .before .before .before .before .before .before .before .loop .inv in (
-      search needs,
-      (
-        r .ensures .0 .gathered,
-        (
-          omega (arith, r .kept .1 .0, v .line-long),
-          omega (
-            arith,
-            r .ensures .0 .few,
-            v .few,
-            c .before .before .before .before .before .before .before .before .before .before .before .before .before .loop-test .taken,
-            c .before .before .before .if2 .taken,
-          ),
-        ),
-      ),
+    let v = c .before .before .before .before .before .before .before .before .before .before .before .before .before .before .before .before .before .before .before .before .loop .inv in
+    let r = c .before .before .before .before .before .before .before .before .before .before .before .read-done in (
+      record {
+        held = r .ensures .held;
+        goes = c .before .before .before .before .if2 .left;
+        line-long = omega (arith, r .kept .1 .1 .1 .0, v .line-long);
+        countable = omega (
+          arith,
+          r .ensures .few,
+          v .few,
+          c .before .before .before .if3 .taken,
+          c .before .before .before .before .before .before .before .before .before .before .before .before .before .before .before .before .before .before .before .loop-test .taken,
+        );
+      },
+      omega (arith, r .kept .1 .1 .1 .1 .1 .0, v .out-long),
     )
 
-returns-2 : tie.Need-returns-2 Inv-loop μ-loop
-returns-2 c = search needs
+slice-aggregate-flush : tie.Need-slice-aggregate-flush Inv-loop μ-loop
+slice-aggregate-flush c = search needs
+
+flush-requires : tie.Need-flush-requires Inv-loop μ-loop
+flush-requires c κs = search needs
+
+returns-3 : tie.Need-returns-3 Inv-loop μ-loop
+returns-3 c = search needs
 
 sub-left : tie.Need-sub-left Inv-loop μ-loop
 sub-left c = search needs
@@ -83,10 +115,30 @@ loop-less : tie.Need-loop-less Inv-loop μ-loop
 loop-less c = search needs
 
 loop-again : tie.Need-loop-again Inv-loop μ-loop
-loop-again c = search needs
+loop-again c =
+    let v = c .before .before .before .before .before .before .before .before .before .before .before .before .before .before .before .before .before .loop .inv in
+    let r = c .before .before .before .before .before .before .before .before .read-done in
+    let l = c .before .before .before .before .before .before .before .before .before .before .before .before .before .before .read .kept .1 .0 in
+    record {
+      held = r .ensures .held;
+      goes = c .before .if2 .left;
+      few = omega (
+        arith,
+        r .ensures .few,
+        v .few,
+        r .ensures .within,
+        l,
+        v .block-long,
+        c .before .before .before .before .before .before .before .before .before .before .before .before .before .before .before .before .loop-test .taken,
+      );
+      cells-long = r .kept .1 .1 .1 .1 .0 ∙ v .cells-long;
+      block-long = l ∙ v .block-long;
+      out-long = r .kept .1 .1 .1 .1 .1 .0 ∙ v .out-long;
+      line-long = r .kept .1 .1 .1 .0 ∙ v .line-long;
+    }
 
-returns-3 : tie.Need-returns-3 Inv-loop μ-loop
-returns-3 c = search needs
+returns-4 : tie.Need-returns-4 Inv-loop μ-loop
+returns-4 c = search needs
 
 pub main-spec : {M : Type 1} → statement M
 main-spec =
@@ -95,19 +147,26 @@ main-spec =
     Inv-loop
     μ-loop
     large-buffer-requires
+    large-buffer-requires-2
     start-requires
     loop-holds
-    slice-aggregate-read-some
-    slice-aggregate-read-some-2
-    slice-aggregate-read-some-3
-    read-some-requires
+    slice-aggregate-read
+    read-requires
+    slice-aggregate-read-done
+    slice-aggregate-read-done-2
+    slice-aggregate-read-done-3
+    slice-aggregate-read-done-4
+    read-done-requires
     returns
+    returns-2
     slice-aggregate-last-line
     slice-aggregate-last-line-2
     slice-aggregate-last-line-3
     last-line-requires
-    returns-2
+    slice-aggregate-flush
+    flush-requires
+    returns-3
     sub-left
     loop-less
     loop-again
-    returns-3)
+    returns-4)

@@ -1,0 +1,27 @@
+use mathlib.Core.Path.{_≡_, ap}
+use mathlib.Core.Bool.{false}
+use native.Mathlib.Omega.{arith}
+use borrow.Author.Needs.{needs}
+use Rattle.sheet.specs.Replay.{blank}
+use Rattle.sheet.specs.Store.{replayOf}
+use Rattle.sheet.specs.declared.Replay.{Replay}
+use Rattle.sheet.proofs.Valid.{blank-ready}
+use Rattle.blocks.specs.Kept.{keptOf, Begins}
+use Rattle.blocks.proofs.start.Statement.{statement}
+use Rattle.blocks.proofs.start.Tie as tie
+
+begins : {replay : Replay} → replay ≡ replayOf blank → Begins (record { replay = replay; number = 0; len = 0; ended = false })
+begins e =
+    record {
+      kept = λ line cells. ap (λ (r : Replay). keptOf (record { replay = r; number = 0; len = 0; ended = false }) line cells) e;
+      held = λ cells l. record { ready = blank-ready _ cells e l; gathered = omega arith };
+    }
+
+start-requires : tie.Need-start-requires
+start-requires c κs = search needs
+
+returns : tie.Need-returns
+returns c = begins (c .start .ensures)
+
+pub start-spec : {M : Type 1} → statement M
+start-spec = tie.close (tie.spec start-requires returns)

@@ -1,0 +1,50 @@
+-- What the program keeps from line to line and from block to block, and how its parts move it on.
+use mathlib.Core.Path.{_≡_}
+use mathlib.Core.Bool.{false}
+use mathlib.Core.List.{List}
+use Prim.Native.Nat.{ℕ, _+_, _^_, _≤_, _<_}
+use lib.ListN.{length, take}
+use Rattle.sheet.specs.Replay.{mostSheetCells}
+use Rattle.sheet.specs.Store.{stateOf, Ready}
+use Rattle.feed.specs.Feed.{Kept, begin, fed, printed}
+use Rattle.blocks.specs.declared.Carried.{Carried}
+use Rattle.blocks.specs.declared.Filled.{Filled}
+
+-- what is kept, as the definitions of the crate feed have it
+abbrev pub keptOf : Carried → List ℕ → List ℕ → Kept
+keptOf c line cells = record { state = stateOf (c .replay) cells; number = c .number; line = take (c .len) line; ended = c .ended }
+
+-- ---- what the parts of the program find
+-- the cells are as a line must find them, and at most 28 bytes of the next line are gathered
+pub record Held (c : Carried) (cells : List ℕ) : Type 0 where
+  pub ready : Ready (c .replay) cells
+  pub gathered : c .len ≤ 28
+
+-- the replay has not ended, and there is room for a line and for the count of n more
+pub record Fit (c : Carried) (line cells : List ℕ) (n : ℕ) : Type 0 where
+  pub held : Held c cells
+  pub goes : c .ended ≡ false
+  pub line-long : 28 ≤ length line
+  pub countable : c .number + n < 2 ^ 64
+
+-- ---- what they leave
+-- before the first byte, whatever the lent lists hold
+pub record Begins (r : Carried) : Type 0 where
+  pub kept : (line cells : List ℕ) → keptOf r line cells ≡ begin
+  pub held : (cells : List ℕ) → mostSheetCells ≤ length cells → Held r cells
+
+-- the first r places hold the first 28 bytes of the line l, or all that it has
+pub record Gathers (l line′ : List ℕ) (r : ℕ) : Type 0 where
+  pub first : take r line′ ≡ take 28 l
+  pub gathered : r ≤ 28
+
+-- the block's first r .next bytes are done, and the buffer's first r .at places hold what they print. Left free: how far it goes, if at least one
+-- byte, and what stands in the lent lists behind the line's bytes, behind the table and behind the output
+pub record Fills (k : Kept) (block line′ cells′ out′ : List ℕ) (r : Filled) : Type 0 where
+  pub kept : keptOf (r .carried) line′ cells′ ≡ fed k (take (r .next) block)
+  pub output : take (r .at) out′ ≡ printed k (take (r .next) block)
+  pub held : Held (r .carried) cells′
+  pub few : r .carried .number ≤ k .number + r .next
+  pub on : 0 < r .next
+  pub within : r .next ≤ length block
+  pub room : r .at ≤ length out′

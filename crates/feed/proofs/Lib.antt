@@ -1,0 +1,5 @@
+pub mod Examples
+pub mod Lines
+pub mod Parts
+pub mod Theorem
+pub mod WholeSheet

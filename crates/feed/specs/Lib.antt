@@ -1,0 +1,4 @@
+pub mod Examples
+pub mod Feed
+pub mod Promise
+pub mod Whole
