@@ -122,7 +122,7 @@ fn recorded(kind: u64) -> (Vec<u32>, Vec<Call>) {
 }
 
 fn turns() {
-    type Run = fn(&Calls, u64, u64, &mut [u32], &mut [u32]) -> u32;
+    type Run = fn(&Calls, u64, u64, &mut [u32], &mut [u64]) -> u64;
     for (kind, name) in [(1, "put in"), (2, "take out"), (3, "look up")] {
         let (opening, calls) = recorded(kind);
         let list = Calls::of(&calls);

@@ -4,7 +4,7 @@ use reference::phase::{Answer, Phase};
 
 mod raw {
     extern "C" {
-        pub fn vulzegan_check(cells: *const u32, length: usize) -> u32;
+        pub fn vulzegan_check(cells: *const u32, length: usize) -> u64;
         pub fn vulzegan_count(cells: *const u32, length: usize) -> u64;
         pub fn vulzegan_list(cells: *const u32, length: usize, out: *mut u32, room: usize) -> u64;
         #[allow(clippy::too_many_arguments)]
@@ -19,9 +19,9 @@ mod raw {
             workers_length: usize,
             keys: *const u32,
             keys_length: usize,
-            answers: *mut u32,
+            answers: *mut u64,
             answers_length: usize,
-        ) -> u32;
+        ) -> u64;
         #[allow(clippy::too_many_arguments)]
         pub fn vulzegan_run_calls_singly(
             kind: u64,
@@ -34,33 +34,36 @@ mod raw {
             workers_length: usize,
             keys: *const u32,
             keys_length: usize,
-            answers: *mut u32,
+            answers: *mut u64,
             answers_length: usize,
-        ) -> u32;
+        ) -> u64;
     }
 }
 
-/// A count, or the refusal's number past 2^32.
-fn counted(answer: u64) -> Result<usize, u8> {
-    match answer.checked_sub(1 << 32) {
+/// Every answer is one number: below this it is a value, from here up to `WORDS` a refusal, document 01's number past this.
+pub const REFUSED: u64 = 1 << 32;
+
+/// From here on an answer is a word.
+pub const WORDS: u64 = 1 << 33;
+
+/// A value, or document 01's number of the refusal.
+fn value(answer: u64) -> Result<usize, u8> {
+    match answer.checked_sub(REFUSED) {
         None => Ok(answer as usize),
-        Some(number) => Err(number as u8),
+        Some(number) => Err(u8::try_from(number).expect("the number of a refusal")),
     }
 }
 
 pub fn check(cells: &[u32]) -> Result<(), u8> {
-    match unsafe { raw::vulzegan_check(cells.as_ptr(), cells.len()) } {
-        0 => Ok(()),
-        number => Err(number as u8),
-    }
+    value(unsafe { raw::vulzegan_check(cells.as_ptr(), cells.len()) }).map(|accepted| assert_eq!(accepted, 0))
 }
 
 pub fn count(cells: &[u32]) -> Result<usize, u8> {
-    counted(unsafe { raw::vulzegan_count(cells.as_ptr(), cells.len()) })
+    value(unsafe { raw::vulzegan_count(cells.as_ptr(), cells.len()) })
 }
 
 pub fn list(cells: &[u32], out: &mut [u32]) -> Result<usize, u8> {
-    counted(unsafe { raw::vulzegan_list(cells.as_ptr(), cells.len(), out.as_mut_ptr(), out.len()) })
+    value(unsafe { raw::vulzegan_list(cells.as_ptr(), cells.len(), out.as_mut_ptr(), out.len()) })
 }
 
 /// One call of a list, as three numbers: 1 order, 2 turn, anything else close.
@@ -100,8 +103,8 @@ impl Calls {
         }
     }
 
-    /// Opens a phase and applies the calls; the opening's refusal number, 0 for none.
-    pub fn run(&self, kind: u64, count: u64, cells: &mut [u32], answers: &mut [u32]) -> u32 {
+    /// Opens a phase and applies the calls; the opening's answer.
+    pub fn run(&self, kind: u64, count: u64, cells: &mut [u32], answers: &mut [u64]) -> u64 {
         unsafe {
             raw::vulzegan_run_calls(
                 kind,
@@ -121,7 +124,7 @@ impl Calls {
     }
 
     /// The same, each call by value with the record tested at each.
-    pub fn run_singly(&self, kind: u64, count: u64, cells: &mut [u32], answers: &mut [u32]) -> u32 {
+    pub fn run_singly(&self, kind: u64, count: u64, cells: &mut [u32], answers: &mut [u64]) -> u64 {
         unsafe {
             raw::vulzegan_run_calls_singly(
                 kind,
@@ -141,28 +144,33 @@ impl Calls {
     }
 }
 
-/// The number of a turn's answer.
-fn answer_number(answer: Answer) -> u32 {
+/// The number of a refusal, by document 01's number, which the reference gives.
+fn refused(number: u8) -> u64 {
+    REFUSED + u64::from(number)
+}
+
+/// The number of the answer of a turn that is not refused.
+fn word(answer: Answer) -> u64 {
     match answer {
-        Answer::WentOn => 20,
-        Answer::Finished => 21,
-        Answer::Yes => 22,
-        Answer::No => 23,
-        Answer::Idle => 24,
+        Answer::WentOn => WORDS + 1,
+        Answer::Finished => WORDS + 2,
+        Answer::Yes => WORDS + 3,
+        Answer::No => WORDS + 4,
+        Answer::Idle => WORDS + 5,
     }
 }
 
 /// The same by the reference.
-pub fn reference_run(kind: u64, count: u64, cells: &mut [u32], calls: &[Call], answers: &mut [u32]) -> u32 {
+pub fn reference_run(kind: u64, count: u64, cells: &mut [u32], calls: &[Call], answers: &mut [u64]) -> u64 {
     let mut phase = match Phase::open(kind, count, cells) {
-        Err(number) => return number.into(),
+        Err(number) => return refused(number),
         Ok(phase) => phase,
     };
     for (call, place) in calls.iter().zip(answers) {
         *place = match call.op {
-            1 => phase.order(call.worker.into(), call.key).map_or_else(u32::from, |()| 0),
-            2 => phase.turn(cells, call.worker.into()).map_or_else(u32::from, answer_number),
-            _ => phase.close().map_or_else(u32::from, |()| 0),
+            1 => phase.order(call.worker.into(), call.key).map_or_else(refused, |()| 0),
+            2 => phase.turn(cells, call.worker.into()).map_or_else(refused, word),
+            _ => phase.close().map_or_else(refused, |()| 0),
         };
     }
     0

@@ -2,14 +2,15 @@
 
 use std::collections::BTreeSet;
 
-use conformance::{check, close, count, list, order, reference_run, turn, Call, Calls};
+use conformance::{check, close, count, list, order, reference_run, turn, Call, Calls, REFUSED, WORDS};
 use reference::generate::Rng;
 use reference::layout::layout;
 use reference::listing;
 use reference::phase::{Activity, Phase};
 
-/// What stands in lent places before a call.
+/// What stands in lent places before a call, for labels and for answers.
 const MARK: u32 = 0xDEAD_BEEF;
+const ANSWER_MARK: u64 = 0xDEAD_BEEF_DEAD_BEEF;
 
 /// A sound table: some labels, crowded at few homes or spread.
 fn table(random: &mut Rng, cells: usize) -> Vec<u32> {
@@ -83,16 +84,35 @@ fn the_limits_of_a_table() {
 
 /// The batch, the calls one by one and the reference run the calls; answers and tables are the same.
 fn same_run(kind: u64, crew: u64, table: &[u32], calls: &[Call]) -> Vec<u32> {
-    let mut expected = (vec![MARK; calls.len() + 2], table.to_vec());
+    let mut expected = (vec![ANSWER_MARK; calls.len() + 2], table.to_vec());
     let opening = reference_run(kind, crew, &mut expected.1, calls, &mut expected.0);
     let list = Calls::of(calls);
-    for (run, name) in [(Calls::run as fn(&Calls, u64, u64, &mut [u32], &mut [u32]) -> u32, "batch"), (Calls::run_singly, "one by one")] {
-        let mut ours = (vec![MARK; calls.len() + 2], table.to_vec());
+    for (run, name) in [(Calls::run as fn(&Calls, u64, u64, &mut [u32], &mut [u64]) -> u64, "batch"), (Calls::run_singly, "one by one")] {
+        let mut ours = (vec![ANSWER_MARK; calls.len() + 2], table.to_vec());
         assert_eq!(run(&list, kind, crew, &mut ours.1, &mut ours.0), opening, "opening {kind} {crew} {table:?}, {name}");
         assert_eq!(ours.0, expected.0, "answers of {kind} {crew} {table:?} {calls:?}, {name}");
         assert_eq!(ours.1, expected.1, "table after {kind} {crew} {table:?} {calls:?}, {name}");
     }
     expected.1
+}
+
+/// The header has the numbers that the comparisons use, and every function of it answers 64 bits.
+#[test]
+fn numbers_of_the_header() {
+    let header = include_str!("../../crates/exports/vulzegan.h");
+    let meaning = |name: &str| {
+        let line = header.lines().find(|l| l.split(' ').nth(1) == Some(name)).unwrap_or_else(|| panic!("{name} in the header"));
+        line.splitn(3, ' ').nth(2).expect("a meaning").to_string()
+    };
+    assert_eq!(meaning("VULZEGAN_ACCEPTED"), "UINT64_C(0)");
+    assert_eq!(meaning("VULZEGAN_REFUSED"), format!("UINT64_C({REFUSED})"));
+    assert_eq!(meaning("VULZEGAN_WORDS"), format!("UINT64_C({WORDS})"));
+    for (n, name) in (1..).zip(["WENT_ON", "FINISHED", "YES", "NO", "IDLE"]) {
+        assert_eq!(meaning(&format!("VULZEGAN_{name}")), format!("(VULZEGAN_WORDS + {n})"));
+    }
+    let functions: Vec<&str> = header.lines().filter(|l| l.contains(" vulzegan_")).collect();
+    assert!(functions.len() == 5 && functions.iter().all(|l| l.starts_with("uint64_t vulzegan_")), "{functions:?}");
+    assert!(!header.contains("uint32_t *answers"));
 }
 
 #[test]

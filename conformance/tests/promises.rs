@@ -1,5 +1,6 @@
-//! Every file and every name that docs/PROMISES.md cites exists.
+//! Every file that docs/PROMISES.md cites exists, and every name that it cites stands in the file that is cited with it.
 
+use std::collections::HashSet;
 use std::fs;
 use std::path::{Path, PathBuf};
 
@@ -20,27 +21,39 @@ fn words(text: &str) -> impl Iterator<Item = &str> {
 }
 
 #[test]
-fn cited_names_and_files_exist() {
+fn cited_names_stand_in_the_cited_files() {
     let root = Path::new(env!("CARGO_MANIFEST_DIR")).parent().expect("the repository");
     let promises = fs::read_to_string(root.join("docs/PROMISES.md")).expect("docs/PROMISES.md");
     let mut files = Vec::new();
     sources(&root.join("crates"), &mut files);
     let text: String = files.iter().map(|f| fs::read_to_string(f).expect("a source")).collect();
-    let known: std::collections::HashSet<&str> = words(&text).collect();
-    let mut names = 0;
+    let known: HashSet<&str> = words(&text).collect();
+    let (mut placed, mut unplaced) = (0, 0);
     for line in promises.lines().filter(|l| l.starts_with('|')) {
-        for cited in line.split('`').skip(1).step_by(2) {
-            if cited.contains('/') {
-                let there = root.join("crates").join(cited).exists() || root.join(cited).exists();
-                assert!(there, "{cited} is cited, but is not there: {line}");
-                continue;
+        // a part of a row, up to a semicolon or the next column: names, and behind them the file where they stand
+        for part in line.split([';', '|']) {
+            let mut names: Vec<&str> = Vec::new();
+            for cited in part.split('`').skip(1).step_by(2) {
+                if !cited.contains('/') {
+                    names.extend(cited.split([' ', ':']).filter(|n| !n.is_empty()));
+                    continue;
+                }
+                let file = root.join("crates").join(cited);
+                let file = if file.exists() { file } else { root.join(cited) };
+                let text = fs::read_to_string(&file).unwrap_or_else(|_| panic!("{cited} is cited, but is not there: {line}"));
+                let here: HashSet<&str> = words(&text).collect();
+                for name in names.drain(..) {
+                    assert!(here.contains(name), "{name} is cited with {cited}, but does not stand there: {line}");
+                    placed += 1;
+                }
             }
-            for name in cited.split([' ', ':']).filter(|n| !n.is_empty()) {
+            // names without a file of their own: a crate, or a name of some source
+            for name in names {
                 let is_crate = root.join("crates").join(name).is_dir();
                 assert!(is_crate || known.contains(name), "{name} is cited, but no source has it: {line}");
-                names += 1;
+                unplaced += 1;
             }
         }
     }
-    assert!(names > 50, "only {names} names were found in docs/PROMISES.md");
+    assert!(placed > 50 && unplaced > 20, "only {placed} names with a file and {unplaced} without were found in docs/PROMISES.md");
 }

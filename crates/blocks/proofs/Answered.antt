@@ -8,7 +8,7 @@ use lib.ListN.{length, take, drop, length-append}
 use lib.Seq.{sets, sets-eq, take-at, take-append-seam, length-take-le, length-sets}
 use Rattle.lines.specs.Grammar.{readingOf}
 use Rattle.lines.specs.declared.Line.{Line}
-use Rattle.sheet.specs.Replay.{State, Answer, answerOf, rendered}
+use Rattle.sheet.specs.Replay.{State, Answer, answerOf, rendered, longestAnswer}
 use Rattle.sheet.specs.Store.{stateOf, Answers}
 use Rattle.sheet.specs.declared.Answered.{Answered}
 use Rattle.feed.specs.Feed.{lastOutput}
@@ -36,7 +36,7 @@ module _ {s : State} {n : ℕ} {l : Line} {cells out : List ℕ} {at : ℕ} {cel
   pub ended-behind : d .ended ≡ a .ended
   ended-behind = ap (λ (x : Answered). x .ended) (h .result)
 
-  module _ (room : at + 45200 ≤ length out) where
+  module _ (room : at + longestAnswer ≤ length out) where
     pub output-behind : take (d .at) out′ ≡ take at out ++ rendered n a
     output-behind =
         ap₂ (λ (x : ℕ) (y : List ℕ). take x y) place-behind (h .output)
@@ -50,7 +50,7 @@ module _ (c : Carried) (line cells out : List ℕ) (fit : Fit c line cells 1) wh
   pub no-last : c .len ≡ 0 → [] ≡ lastOutput (keptOf c line cells)
   no-last e = sym (last-none (keptOf c line cells) (fit .goes) (ap (λ x. take x line) e))
 
-  pub a-last : (c .len ≡ 0 → ⊥) → 45200 ≤ length out → {l : Line} → l ≡ readingOf (take (c .len) line) → {cells′ out′ : List ℕ} {d : Answered}
+  pub a-last : (c .len ≡ 0 → ⊥) → longestAnswer ≤ length out → {l : Line} → l ≡ readingOf (take (c .len) line) → {cells′ out′ : List ℕ} {d : Answered}
       → Answers (stateOf (c .replay) cells) (c .number + 1) l cells out 0 cells′ out′ d
       → (take (d .at) out′ ≡ lastOutput (keptOf c line cells)) × (d .at ≤ length out′)
   a-last some room read h =

@@ -9,11 +9,12 @@ use borrow.Author.Tests.{eqb-true, eqb-false}
 use lib.Dec.{eqb}
 use lib.ListN.{length, take, drop, length-drop, length-take}
 use lib.Seq.{take-add, take-all}
-use Rattle.lines.specs.Grammar.{byteAt, readingOf}
+use Rattle.text.specs.Bytes.{byteAt}
+use Rattle.lines.specs.Grammar.{readingOf, keptBytes}
 use Rattle.lines.specs.declared.Line.{Line}
-use Rattle.lines.proofs.Fields.{byte-le}
-use Rattle.lines.proofs.Test.{by-test}
-use Rattle.sheet.specs.Replay.{State, Answer, answerOf, rendered}
+use Rattle.text.proofs.Bytes.{byte-le}
+use Rattle.text.proofs.Test.{by-test}
+use Rattle.sheet.specs.Replay.{State, Answer, answerOf, rendered, longestAnswer}
 use Rattle.sheet.specs.Store.{stateOf, Answers}
 use Rattle.sheet.specs.declared.Answered.{Answered}
 use Rattle.feed.specs.Feed.{Kept, answerTo, behindLine, fed, printed}
@@ -22,7 +23,8 @@ use Rattle.feed.proofs.Lines.{withLine, fed-plain, printed-plain, line-fed, lin
 use Rattle.feed.proofs.Parts.{fed-append, printed-append}
 use Rattle.feed.proofs.WholeSheet.{answer-front}
 use Rattle.blocks.specs.declared.Carried.{Carried}
-use Rattle.blocks.specs.Kept.{keptOf, Held, Fit, Gathers, Fills}
+use Rattle.blocks.specs.Kept.{keptOf, Held, Fit, Fills}
+use Rattle.gathering.specs.Gathers.{Gathers}
 use Rattle.blocks.proofs.Answered.{state-behind, ended-behind, output-behind, room-behind}
 
 -- the rest of a block, as the code cuts it
@@ -37,7 +39,7 @@ pub record Behind (k₀ : Kept) (block line cells : List ℕ) (c : Carried) (fro
   pub kept : keptOf c line cells ≡ fed k₀ (take from block)
   pub held : Held c cells
   pub goes : c .ended ≡ false
-  pub line-long : 28 ≤ length line
+  pub line-long : keptBytes ≤ length line
   pub few : c .number ≤ k₀ .number + from
   pub countable : k₀ .number + length block < 2 ^ 64
   pub within : from ≤ length block
@@ -99,10 +101,10 @@ pub record Filling (k₀ : Kept) (block line cells out : List ℕ) (c : Carried)
   pub behind : Behind k₀ block line cells c from
   pub output : take at out ≡ printed k₀ (take from block)
   pub room : at ≤ length out
-  pub buffer : 45200 ≤ length out
+  pub buffer : longestAnswer ≤ length out
   pub begun : from ≡ 0 → at ≡ 0
 
-pub filling-none : {c : Carried} {block line cells out : List ℕ} → Fit c line cells (length block) → 45200 ≤ length out
+pub filling-none : {c : Carried} {block line cells out : List ℕ} → Fit c line cells (length block) → longestAnswer ≤ length out
     → Filling (keptOf c line cells) block line cells out c 0 0
 filling-none fit room = record { behind = behind-none fit; output = unfold printed in refl; room = omega arith; buffer = room; begun = λ _. refl }
 
@@ -119,12 +121,12 @@ module _ {k₀ : Kept} {block line cells out : List ℕ} {c : Carried} {from at 
   pub filled-up : length block ≤ from → 0 < length block → Fills k₀ block line cells out (record { carried = c; next = from; at = at })
   filled-up l some = so-far (omega arith)
 
-  pub no-room : length out - at < 45200 → Fills k₀ block line cells out (record { carried = c; next = from; at = at })
+  pub no-room : length out - at < longestAnswer → Fills k₀ block line cells out (record { carried = c; next = from; at = at })
   no-room l = by-test (eqb from 0)
       (λ t. absurd (omega (arith, h .begun (eqb-true from 0 t), h .buffer)))
       (λ t. let n : from ≡ 0 → ⊥ = eqb-false from 0 t in so-far (omega arith))
 
-  few-gathered : length (kept-now .line) ≤ 28
+  few-gathered : length (kept-now .line) ≤ keptBytes
   few-gathered = rw (length-take (c .len) line) (omega (arith, h .behind .held .gathered))
 
   module _ (inside : from < length block) {e : ℕ} (is : e ≡ byteAt 10 (rest block from)) where
@@ -155,7 +157,7 @@ module _ {k₀ : Kept} {block line cells out : List ℕ} {c : Carried} {from at 
         same-line s t = rw (s, t)
 
     -- a line that ends in the block is answered
-    module _ (found : from + e < length block) (room : at + 45200 ≤ length out) {l : Line} (read : l ≡ readingOf (take (c .len) line ++ take (from + e - from) (drop from block)))
+    module _ (found : from + e < length block) (room : at + longestAnswer ≤ length out) {l : Line} (read : l ≡ readingOf (take (c .len) line ++ take (from + e - from) (drop from block)))
         {cells′ out′ : List ℕ} {d : Answered} (a : Answers (stateOf (c .replay) cells) (c .number + 1) l cells out at cells′ out′ d) (line′ : List ℕ) where
       abbrev b : Behind k₀ block line cells c from
       b = h .behind
@@ -173,7 +175,7 @@ module _ {k₀ : Kept} {block line cells out : List ℕ} {c : Carried} {from at 
       found-in = omega (arith, place, length-drop from block)
 
       abbrev full : Kept
-      full = withLine kept-now (take 28 text)
+      full = withLine kept-now (take keptBytes text)
 
       answer : answerOf (stateOf (c .replay) cells) l ≡ answerTo full
       answer = ap (answerOf (stateOf (c .replay) cells)) said ∙ sym (answer-front full text refl)

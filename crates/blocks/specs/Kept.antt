@@ -4,6 +4,7 @@ use mathlib.Core.Bool.{false}
 use mathlib.Core.List.{List}
 use Prim.Native.Nat.{ℕ, _+_, _^_, _≤_, _<_}
 use lib.ListN.{length, take}
+use Rattle.lines.specs.Grammar.{keptBytes}
 use Rattle.sheet.specs.Replay.{mostSheetCells}
 use Rattle.sheet.specs.Store.{stateOf, Ready}
 use Rattle.feed.specs.Feed.{Kept, begin, fed, printed}
@@ -15,16 +16,16 @@ abbrev pub keptOf : Carried → List ℕ → List ℕ → Kept
 keptOf c line cells = record { state = stateOf (c .replay) cells; number = c .number; line = take (c .len) line; ended = c .ended }
 
 -- ---- what the parts of the program find
--- the cells are as a line must find them, and at most 28 bytes of the next line are gathered
+-- the cells are as a line must find them, and no more bytes of the next line are gathered than are kept
 pub record Held (c : Carried) (cells : List ℕ) : Type 0 where
   pub ready : Ready (c .replay) cells
-  pub gathered : c .len ≤ 28
+  pub gathered : c .len ≤ keptBytes
 
 -- the replay has not ended, and there is room for a line and for the count of n more
 pub record Fit (c : Carried) (line cells : List ℕ) (n : ℕ) : Type 0 where
   pub held : Held c cells
   pub goes : c .ended ≡ false
-  pub line-long : 28 ≤ length line
+  pub line-long : keptBytes ≤ length line
   pub countable : c .number + n < 2 ^ 64
 
 -- ---- what they leave
@@ -32,11 +33,6 @@ pub record Fit (c : Carried) (line cells : List ℕ) (n : ℕ) : Type 0 where
 pub record Begins (r : Carried) : Type 0 where
   pub kept : (line cells : List ℕ) → keptOf r line cells ≡ begin
   pub held : (cells : List ℕ) → mostSheetCells ≤ length cells → Held r cells
-
--- the first r places hold the first 28 bytes of the line l, or all that it has
-pub record Gathers (l line′ : List ℕ) (r : ℕ) : Type 0 where
-  pub first : take r line′ ≡ take 28 l
-  pub gathered : r ≤ 28
 
 -- the block's first r .next bytes are done, and the buffer's first r .at places hold what they print. Left free: how far it goes, if at least one
 -- byte, and what stands in the lent lists behind the line's bytes, behind the table and behind the output

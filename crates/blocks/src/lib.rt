@@ -1,14 +1,12 @@
 // A block of the shift sheet: its lines read where they lie and answered into a buffer. Nothing is read from or written to the system here.
-use lines::Line;
-use sheet::Aim;
+use fitting::Aim;
 use sheet::Replay;
 ghost use mathlib.Core.Path.{_≡_};
-ghost use mathlib.Core.List.{_++_};
 ghost use Prim.Native.Nat.{_≤_, _<_};
 ghost use lib.ListN.{length, take};
-ghost use Rattle.lines.specs.Grammar.{readingOf};
+ghost use Rattle.sheet.specs.Replay.{longestAnswer};
 ghost use Rattle.feed.specs.Feed.{lastOutput};
-ghost use Rattle.blocks.specs.Kept.{keptOf, Begins, Fit, Gathers, Fills};
+ghost use Rattle.blocks.specs.Kept.{keptOf, Begins, Fit, Fills};
 
 // What is kept from block to block, beside the lent cells and the bytes of a line that is not whole yet: how many those are, how many lines
 // there were, and whether the replay has ended.
@@ -39,36 +37,6 @@ pub fn start() -> Carried
     }
 }
 
-// Gathers bytes of a line behind those gathered before. The first 28 of the line are kept: what follows them does not change what the line says.
-fn gather(bytes: &[u8], line: &mut [u8], gathered: usize) -> usize
-    requires { ⌜ (gathered ≤ 28) × (28 ≤ length (now line)) ⌝ }
-    ensures { λ r. ⌜ Gathers (take gathered (now (line .entry)) ++ now (bytes .entry)) (now (line .exit)) r ⌝ }
-{
-    let mut len = gathered;
-    let mut i: usize = 0;
-    while i < bytes.len() {
-        if len == 28 {
-            return len;
-        }
-        line[len] = bytes[i];
-        len += 1;
-        i += 1;
-    }
-    len
-}
-
-// What a line says that ends in these bytes: they are the line, unless bytes of it were gathered before.
-fn read_end(bytes: &[u8], line: &mut [u8], gathered: usize) -> Line
-    requires { ⌜ (gathered ≤ 28) × (28 ≤ length (now line)) ⌝ }
-    ensures { λ r. ⌜ r ≡ readingOf (take gathered (now (line .entry)) ++ now (bytes .entry)) ⌝ }
-{
-    if gathered == 0 {
-        return lines::read_line(bytes);
-    }
-    let n = gather(bytes, line, gathered);
-    lines::read_line(&line[..n])
-}
-
 // Answers lines of a block until it is done, the replay ends, or the buffer has no room for the longest answer. A line is read where it lies; only
 // one that the block does not end is gathered. The phase stays in place: a line to one worker moves that worker alone.
 pub fn fill(
@@ -78,7 +46,7 @@ pub fn fill(
     cells: &mut [u32],
     out: &mut [u8],
 ) -> Filled
-    requires { ⌜ Fit carried (now line) (now cells) (length (now block)) × ((0 < length (now block)) × (45200 ≤ length (now out))) ⌝ }
+    requires { ⌜ Fit carried (now line) (now cells) (length (now block)) × ((0 < length (now block)) × (longestAnswer ≤ length (now out))) ⌝ }
     ensures { λ r. ⌜ Fills (keptOf carried (now (line .entry)) (now (cells .entry))) (now (block .entry)) (now (line .exit)) (now (cells .exit)) (now (out .exit)) r ⌝ }
 {
     let start = carried.replay;
@@ -89,7 +57,7 @@ pub fn fill(
     let mut at: usize = 0;
     let mut from: usize = 0;
     while from < block.len() {
-        if out.len() - at < 45200 {
+        if out.len() - at < Replay::LONGEST_ANSWER {
             return Filled {
                 carried: Carried {
                     replay: Replay {
@@ -104,9 +72,9 @@ pub fn fill(
                 at,
             };
         }
-        let end = from + lines::byte_at(&block[from..], b'\n');
+        let end = from + text::byte_at(&block[from..], b'\n');
         if block.len() <= end {
-            let n = gather(&block[from..], line, len);
+            let n = gathering::gather(&block[from..], line, len);
             return Filled {
                 carried: Carried {
                     replay: Replay {
@@ -122,10 +90,10 @@ pub fn fill(
             };
         }
         number += 1;
-        let read = read_end(&block[from..end], line, len);
+        let read = gathering::read_end(&block[from..end], line, len);
         len = 0;
         from = end + 1;
-        let aim = sheet::aim_of(read, phase.shut, phase.count);
+        let aim = fitting::aim_of(phase.kind, phase.shut, read, phase.crew);
         match aim {
             Aim::Order(worker, key) => {
                 let w = worker as usize;
@@ -209,7 +177,7 @@ pub fn fill(
 
 // Answers a last line that no newline ends, if it has a byte. The result is how far the buffer is filled.
 pub fn last_line(carried: Carried, line: &[u8], cells: &mut [u32], out: &mut [u8]) -> usize
-    requires { ⌜ Fit carried (now line) (now cells) 1 × (45200 ≤ length (now out)) ⌝ }
+    requires { ⌜ Fit carried (now line) (now cells) 1 × (longestAnswer ≤ length (now out)) ⌝ }
     ensures { λ r. ⌜ (take r (now (out .exit)) ≡ lastOutput (keptOf carried (now (line .entry)) (now (cells .entry)))) × (r ≤ length (now (out .exit))) ⌝ }
 {
     let len = carried.len;

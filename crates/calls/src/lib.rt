@@ -1,110 +1,33 @@
 // The calls on a phase: order, turn and close, by value.
+use activities::Activity;
+use activities::Worker;
+use formed::all_idle;
+use formed::is_idle;
+use formed::is_well_formed;
+use formed::numbers_ok;
+use formed::worker_ok;
+use probing::touched;
+use protocol::Given;
+use protocol::Moved;
+use protocol::TurnReply;
+use protocol::Turned;
 use rule::Answer;
 use rule::Place;
-use state::Activity;
 use state::Phase;
 use state::Refusal;
 use state::Replied;
 use state::Reply;
-use state::Worker;
-use steps::activity_ok;
 use steps::step;
-use steps::touched;
 ghost use mathlib.Core.Path.{_≡_};
-ghost use mathlib.Core.Bool.{true, false, cond};
+ghost use mathlib.Core.Bool.{true, cond};
 ghost use Prim.Native.Nat.{_-_, _<_};
 ghost use lib.Dec.{eqb};
 ghost use lib.ListN.{length};
-ghost use Rattle.layout.specs.Home.{modulo};
-ghost use Rattle.rule.specs.WellFormed.{activityOk};
-ghost use Rattle.state.specs.Limits.{gateway};
-ghost use Rattle.calls.specs.WellFormed.{isIdle, isWellFormed};
-ghost use Rattle.calls.specs.Calls.{allIdle, closeCall, orderCall, turnCall, turnTable};
-ghost use Rattle.calls.specs.Split.{numbersOk, oneOrder, oneTurn, oneTable};
-
-// The answer of a turn.
-pub enum TurnReply {
-    Answered(Answer),
-    Refused(Refusal),
-}
-
-pub struct Turned {
-    pub phase: Phase,
-    pub reply: TurnReply,
-}
-
-// The same of one worker alone.
-pub struct Moved {
-    pub worker: Worker,
-    pub reply: TurnReply,
-}
-
-// A worker after an order, the insert operations left, and the answer.
-pub struct Given {
-    pub worker: Worker,
-    pub left: u32,
-    pub reply: Reply,
-}
-
-// ---- which phase states are well formed
-pub fn is_idle(activity: Activity) -> bool
-    ensures { λ r. ⌜ r ≡ isIdle activity ⌝ }
-{
-    match activity {
-        Activity::Idle => true,
-        Activity::Reading { .. } => false,
-        Activity::Replacing { .. } => false,
-        Activity::WalkingBack { .. } => false,
-        Activity::SeekingForward { .. } => false,
-        Activity::SeekingBack { .. } => false,
-    }
-}
-
-// Whether the numbers of a phase are within their bounds.
-fn numbers_ok(kind: u32, length: u32, count: u32, left: u32) -> bool
-    ensures { λ r. ⌜ r ≡ numbersOk gateway kind length count left ⌝ }
-{
-    if !Phase::kind_ok(kind as u64) {
-        return false;
-    }
-    if !Phase::size_ok(length as usize) {
-        return false;
-    }
-    if !Phase::crew_ok(count as usize) {
-        return false;
-    }
-    left < length
-}
-
-// Whether a worker, below the worker count or past it, may have this activity.
-fn worker_ok(kind: u32, length: u32, active: bool, activity: Activity) -> bool
-    ensures { λ r. ⌜ r ≡ cond active (activityOk kind length activity) (isIdle activity) ⌝ }
-{
-    if active {
-        activity_ok(kind, length, activity)
-    } else {
-        is_idle(activity)
-    }
-}
-
-// Whether a phase is not spoilt, in document 01's word.
-pub fn is_well_formed(phase: Phase) -> bool
-    ensures { λ r. ⌜ r ≡ isWellFormed gateway phase ⌝ }
-{
-    if !numbers_ok(phase.kind, phase.length, phase.count, phase.left) {
-        return false;
-    }
-    let mut i: usize = 0;
-    while i < Phase::MOST_WORKERS {
-        let w = phase.workers[i];
-        let activity = w.activity;
-        if !worker_ok(phase.kind, phase.length, i < phase.count as usize, activity) {
-            return false;
-        }
-        i += 1;
-    }
-    true
-}
+ghost use Rattle.activities.specs.Activities.{activityOk};
+ghost use Rattle.state.specs.Model.{gateway};
+ghost use Rattle.protocol.specs.Bars.{usedUp};
+ghost use Rattle.protocol.specs.Calls.{closeCall, orderCall, turnCall, turnTable};
+ghost use Rattle.protocol.specs.Split.{oneOrder, oneTurn, oneTable};
 
 // ---- close
 // The phase as it is, with a refusal.
@@ -115,21 +38,6 @@ fn refused(phase: Phase, why: Refusal) -> Replied
         phase,
         reply: Reply::Refused(why),
     }
-}
-
-pub fn all_idle(workers: [Worker; Phase::MOST_WORKERS]) -> bool
-    ensures { λ r. ⌜ r ≡ allIdle workers ⌝ }
-{
-    let mut i: usize = 0;
-    while i < Phase::MOST_WORKERS {
-        let worker = workers[i];
-        let activity = worker.activity;
-        if !is_idle(activity) {
-            return false;
-        }
-        i += 1;
-    }
-    true
 }
 
 pub fn close(mut phase: Phase) -> Replied
@@ -154,7 +62,7 @@ pub fn close(mut phase: Phase) -> Replied
 
 // ---- order
 fn is_full(kind: u32, left: u32) -> bool
-    ensures { λ r. ⌜ r ≡ cond (eqb kind 1) (eqb left 0) false ⌝ }
+    ensures { λ r. ⌜ r ≡ usedUp kind left ⌝ }
 {
     if kind == 1 { left == 0 } else { false }
 }
@@ -172,7 +80,7 @@ fn left_after(kind: u32, left: u32) -> u32
 // An order to one worker by itself. The rest of its phase is not tested.
 pub fn one_order(kind: u32, length: u32, left: u32, worker: Worker, key: u32) -> Given
     requires { ⌜ 0 < length ⌝ }
-    ensures { λ r. ⌜ r ≡ oneOrder modulo kind length left worker key ⌝ }
+    ensures { λ r. ⌜ r ≡ oneOrder gateway kind length left worker key ⌝ }
 {
     let activity = worker.activity;
     if !is_idle(activity) {
@@ -196,7 +104,7 @@ pub fn one_order(kind: u32, length: u32, left: u32, worker: Worker, key: u32) ->
             reply: Reply::Refused(Refusal::Full),
         };
     }
-    let cell = key % length;
+    let cell = geometry::home(length, key);
     Given {
         worker: Worker {
             activity: Activity::Reading { key, cell },
@@ -208,16 +116,16 @@ pub fn one_order(kind: u32, length: u32, left: u32, worker: Worker, key: u32) ->
 
 // An order to one worker of the phase. The workers are tested in its own body: the phase is not copied for it.
 pub fn order(mut phase: Phase, worker: usize, key: u32) -> Replied
-    ensures { λ r. ⌜ r ≡ orderCall gateway phase modulo worker key ⌝ }
+    ensures { λ r. ⌜ r ≡ orderCall gateway phase worker key ⌝ }
 {
-    if !numbers_ok(phase.kind, phase.length, phase.count, phase.left) {
+    if !numbers_ok(phase.kind, phase.length, phase.crew, phase.left) {
         return refused(phase, Refusal::Spoilt);
     }
     let mut i: usize = 0;
-    while i < Phase::MOST_WORKERS {
+    while i < Phase::ROOM {
         let w = phase.workers[i];
         let activity = w.activity;
-        if !worker_ok(phase.kind, phase.length, i < phase.count as usize, activity) {
+        if !worker_ok(phase.kind, phase.length, i < phase.crew as usize, activity) {
             return refused(phase, Refusal::Spoilt);
         }
         i += 1;
@@ -225,7 +133,7 @@ pub fn order(mut phase: Phase, worker: usize, key: u32) -> Replied
     if phase.shut {
         return refused(phase, Refusal::Shut);
     }
-    if phase.count as usize <= worker {
+    if phase.crew as usize <= worker {
         return refused(phase, Refusal::NoWorker);
     }
     let given = one_order(
@@ -246,7 +154,7 @@ pub fn order(mut phase: Phase, worker: usize, key: u32) -> Replied
 // The turn of a worker that its phase may have, on a table as long as its phase says. Neither is tested.
 pub fn one_turn(kind: u32, size: u32, cells: &mut [u32], worker: Worker) -> Moved
     requires { ⌜ (activityOk kind size (worker .activity) ≡ true) × (size ≡ length (now cells)) ⌝ }
-    ensures { λ r. ⌜ (r ≡ oneTurn modulo kind size (now (cells .entry)) worker) × (now (cells .exit) ≡ oneTable modulo kind size (now (cells .entry)) worker) ⌝ }
+    ensures { λ r. ⌜ (r ≡ oneTurn gateway kind size (now (cells .entry)) worker) × (now (cells .exit) ≡ oneTable gateway kind size (now (cells .entry)) worker) ⌝ }
 {
     let activity = worker.activity;
     let Place::At(cell) = touched(activity) else {
@@ -277,16 +185,16 @@ fn turn_refused(phase: Phase, why: Refusal) -> Turned
 
 // A turn of one worker of the phase. The workers are tested in its own body: the phase is not copied for it.
 pub fn turn(mut phase: Phase, cells: &mut [u32], worker: usize) -> Turned
-    ensures { λ r. ⌜ (r ≡ turnCall gateway phase (now (cells .entry)) worker modulo) × (now (cells .exit) ≡ turnTable gateway phase (now (cells .entry)) worker modulo) ⌝ }
+    ensures { λ r. ⌜ (r ≡ turnCall gateway phase (now (cells .entry)) worker) × (now (cells .exit) ≡ turnTable gateway phase (now (cells .entry)) worker) ⌝ }
 {
-    if !numbers_ok(phase.kind, phase.length, phase.count, phase.left) {
+    if !numbers_ok(phase.kind, phase.length, phase.crew, phase.left) {
         return turn_refused(phase, Refusal::Spoilt);
     }
     let mut i: usize = 0;
-    while i < Phase::MOST_WORKERS {
+    while i < Phase::ROOM {
         let w = phase.workers[i];
         let activity = w.activity;
-        if !worker_ok(phase.kind, phase.length, i < phase.count as usize, activity) {
+        if !worker_ok(phase.kind, phase.length, i < phase.crew as usize, activity) {
             return turn_refused(phase, Refusal::Spoilt);
         }
         i += 1;
@@ -297,7 +205,7 @@ pub fn turn(mut phase: Phase, cells: &mut [u32], worker: usize) -> Turned
     if phase.length as usize != cells.len() {
         return turn_refused(phase, Refusal::OtherTable);
     }
-    if phase.count as usize <= worker {
+    if phase.crew as usize <= worker {
         return turn_refused(phase, Refusal::NoWorker);
     }
     let moved = one_turn(phase.kind, phase.length, cells, phase.workers[worker]);

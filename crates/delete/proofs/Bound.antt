@@ -13,12 +13,13 @@ use Rattle.ring.specs.Ring.{next, prev}
 use Rattle.ring.proofs.Split.{by-eq}
 use Rattle.layout.specs.Layout.{In}
 use Rattle.layout.specs.Sound.{Sound}
-use Rattle.state.specs.declared.Activity.{Activity}
-use Rattle.state.specs.declared.Activity.the-variants.{Idle, Reading, Replacing, WalkingBack, SeekingForward, SeekingBack}
+use Rattle.activities.specs.declared.Activity.{Activity}
+use Rattle.activities.specs.declared.Activity.the-variants.{Idle, Reading, Replacing, WalkingBack, SeekingForward, SeekingBack}
 use Rattle.rule.specs.declared.Answer.the-variants.{Finished}
 use Rattle.rule.specs.declared.Outcome.{Outcome}
 use Rattle.rule.specs.Rule.{goes, ends, narrow, deleteStep, rule}
-use Rattle.rule.specs.Events.{busy, Run, Event, worker, ordered, run, opened, after}
+use Rattle.activities.specs.Activities.{busy}
+use Rattle.rule.specs.Events.{Run, Event, worker, ordered, run, opened, after}
 use Rattle.phases.specs.Promise.{mostSteps, mostRest, stepsOf}
 use Rattle.phases.proofs.Crew.{crew-idle}
 use Rattle.phases.proofs.Events.{run-paid}
@@ -32,8 +33,7 @@ use Rattle.delete.proofs.Doomed.{doom}
 use Rattle.delete.proofs.Ends.{setting}
 use Rattle.delete.proofs.Invariant.{On, Candidate, Shape, Invariant}
 use Rattle.delete.proofs.Kept.{reads, past-home, not-gap}
-use Rattle.delete.proofs.Potential.{price, price-most, potential, doomed-most, potential-rest, countdown-lowers, spread-lowers, charges-lower}
-use Rattle.delete.proofs.Potential.{potential-most, order-raises}
+use Rattle.delete.proofs.Potential.{price, price-most, potential, doomed-most, potential-rest, countdown-lowers, spread-lowers, charges-lower, potential-most, order-raises}
 use Rattle.delete.proofs.Runs.{Fair, order-fair, step-fair, opening-fair}
 use Rattle.delete.proofs.Setting.{Setting}
 use Rattle.delete.proofs.Steps.{released, turns-back as turns-back-keeps, empties as empties-keeps, replaces as replaces-keeps}

@@ -5,8 +5,8 @@ use Prim.Native.Nat.{ℕ, _≤_, _<_}
 use borrow.Author.Tests.{lt-ltb, le-ltb, eq-eqb, ne-eqb}
 use Rattle.ring.specs.Ring.{dist, next, prev}
 use Rattle.ring.proofs.Split.{by-lt, by-eq}
-use Rattle.state.specs.declared.Activity.{Activity}
-use Rattle.state.specs.declared.Activity.the-variants.{Reading, Replacing, WalkingBack, SeekingForward, SeekingBack}
+use Rattle.activities.specs.declared.Activity.{Activity}
+use Rattle.activities.specs.declared.Activity.the-variants.{Reading, Replacing, WalkingBack, SeekingForward, SeekingBack}
 use Rattle.rule.specs.declared.Answer.the-variants.{Finished}
 use Rattle.rule.specs.declared.Outcome.{Outcome}
 use Rattle.rule.specs.Rule.{goes, ends, fits, narrow, deleteStep, rule}

@@ -13,8 +13,8 @@ use borrow.Author.Tests.{le-leb, lt-leb, eq-eqb, ne-eqb}
 use Rattle.ring.specs.Counting.{tally}
 use Rattle.ring.proofs.Counting.{tally-le, tally-less}
 use Rattle.ring.proofs.Split.{by-lt, by-eq}
-use Rattle.state.specs.declared.Activity.{Activity}
-use Rattle.state.specs.declared.Activity.the-variants.{Idle, Reading, Replacing, WalkingBack, SeekingForward, SeekingBack}
+use Rattle.activities.specs.declared.Activity.{Activity}
+use Rattle.activities.specs.declared.Activity.the-variants.{Idle, Reading, Replacing, WalkingBack, SeekingForward, SeekingBack}
 use Rattle.rule.specs.Rule.{narrow}
 use Rattle.delete.proofs.Cases.{narrow-by}
 use Rattle.delete.proofs.Invariant.{Shape}

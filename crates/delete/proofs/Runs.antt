@@ -10,7 +10,7 @@ use Rattle.layout.specs.Layout.{In, without, layout}
 use Rattle.layout.specs.Sound.{Holds, Sound}
 use Rattle.layout.proofs.Canonical.{keys-layout}
 use Rattle.layout.proofs.Sets.{in-without}
-use Rattle.state.specs.declared.Activity.the-variants.{Idle}
+use Rattle.activities.specs.declared.Activity.the-variants.{Idle}
 use Rattle.rule.specs.Rule.{rule}
 use Rattle.rule.specs.Events.{Run, Event, worker, AllIdle, ordered, event, opened, after}
 use Rattle.phases.proofs.Crew.{crew-idle}

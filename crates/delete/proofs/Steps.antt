@@ -12,12 +12,12 @@ use Rattle.ring.specs.Ring.{dist, next, prev}
 use Rattle.ring.proofs.Counting.{from, from-ne}
 use Rattle.ring.proofs.Split.{by-lt, by-eq}
 use Rattle.layout.specs.Layout.{In}
-use Rattle.state.specs.declared.Activity.{Activity}
-use Rattle.state.specs.declared.Activity.the-variants.{Idle, Reading, Replacing, WalkingBack, SeekingForward, SeekingBack}
+use Rattle.activities.specs.declared.Activity.{Activity}
+use Rattle.activities.specs.declared.Activity.the-variants.{Idle, Reading, Replacing, WalkingBack, SeekingForward, SeekingBack}
 use Rattle.rule.specs.declared.Answer.the-variants.{Finished}
 use Rattle.rule.specs.declared.Outcome.{Outcome}
 use Rattle.rule.specs.Rule.{goes, ends, narrow, deleteStep, rule}
-use Rattle.rule.specs.Events.{keyOf}
+use Rattle.activities.specs.Activities.{keyOf}
 use Rattle.phases.proofs.Steps.{cellOf}
 use Rattle.delete.proofs.Cases.{narrow-by, reading-by, walking-back-by, seeking-forward-by, seeking-back-by, replacing-by}
 use Rattle.delete.proofs.Copies.{copies-skip, weight, from-hit}

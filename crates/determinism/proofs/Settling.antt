@@ -5,7 +5,7 @@ use mathlib.Core.List.{List}
 use Prim.Native.Nat.{suc}
 use native.Mathlib.Omega.{arith}
 use lib.ListN.{length-replicate}
-use Rattle.state.specs.declared.Activity.the-variants.{Idle}
+use Rattle.activities.specs.declared.Activity.the-variants.{Idle}
 use Rattle.rule.specs.Events.{Event, run, opened, after}
 use Rattle.phases.specs.Promise.{mostRest, RoundsPromise}
 use Rattle.phases.proofs.Rounds.{rounds-steps, run-crew, rounds-rest}

@@ -10,14 +10,14 @@ use Rattle.layout.specs.Layout.{into, descending, listed, without, firstEmpty, 
 use Rattle.layout.specs.Sound.{all, some, clear, isSound}
 use Rattle.layout.proofs.Sound.{isSound-of}
 use Rattle.layout.proofs.Tests.{and-left, and-right}
-use Rattle.listing.specs.Words.{group, wordOf}
+use Rattle.words.specs.Words.{group, wordOf}
 use Rattle.ring.specs.Counting.{count}
-use Rattle.state.specs.Limits.{gateway}
+use Rattle.state.specs.Model.{gateway}
 use Rattle.state.specs.Open.{openReply, openCall}
 use Rattle.state.specs.Refusals.{replyNumber}
 use Rattle.rule.specs.Rule.{insertStep, findStep, fits, narrow, deleteStep, rule}
-use Rattle.calls.specs.Calls.{orderCall}
-use Rattle.calls.specs.WellFormed.{isWellFormed}
+use Rattle.protocol.specs.Calls.{orderCall}
+use Rattle.protocol.specs.IsWellFormed.{isWellFormed}
 use Rattle.history.specs.History.{call, run, after}
 use Rattle.rule.specs.Schedules.{Schedule, sameTable, schedules, AllClose}
 use Rattle.rule.proofs.Schedules.{same-table, closes, all-close}
@@ -33,12 +33,12 @@ passes-says (laid n keys t) p = same-table (layout n (modulo n) keys) t p
 passes-says (word t w) p = eqb→eq (wordOf (group t 0)) w p
 passes-says (unsound t) p = λ s. T-not (isSound (length t) (modulo (length t)) t) p (isSound-of (length t) (modulo (length t)) t s)
 passes-says (ordering k m t w v r) p =
-    let opens = eqb (replyNumber (openReply gateway modulo k m t)) 0 in
-    let number = replyNumber (orderCall gateway (openCall gateway modulo k m t .phase) modulo w v .reply) in
+    let opens = eqb (replyNumber (openReply gateway k m t)) 0 in
+    let number = replyNumber (orderCall gateway (openCall gateway k m t .phase) w v .reply) in
     let answered = eqb number r in
-    (eqb→eq (replyNumber (openReply gateway modulo k m t)) 0 (and-left opens answered p), eqb→eq number r (and-right opens answered p))
+    (eqb→eq (replyNumber (openReply gateway k m t)) 0 (and-left opens answered p), eqb→eq number r (and-right opens answered p))
 passes-says (calling k m t cs u) p =
-    let s = after gateway modulo k m t cs in
+    let s = after gateway k m t cs in
     (is-true (s .phase .shut) (and-left (s .phase .shut) _ p), same-table (s .table) u (and-right (s .phase .shut) _ p))
 passes-says (closing s) p = closes s p
 

@@ -1,6 +1,6 @@
 -- Worked examples as one table: document 01's tables to try that are marked P, and schedules of phases.
 use mathlib.Core.Path.{_≡_}
-use mathlib.Core.Bool.{Bool, true, false, not, _&&_}
+use mathlib.Core.Bool.{Bool, true, not, _&&_}
 use mathlib.Core.List.{List, [], _∷_, _++_, map}
 use Prim.Native.Nat.{ℕ, zero, suc}
 use lib.Dec.{eqb}
@@ -8,11 +8,11 @@ use lib.ListN.{length}
 use Rattle.layout.specs.Home.{modulo}
 use Rattle.layout.specs.Layout.{layout, without}
 use Rattle.layout.specs.Sound.{Sound, isSound}
-use Rattle.listing.specs.Words.{group, wordOf}
-use Rattle.state.specs.Limits.{gateway}
+use Rattle.words.specs.Words.{group, wordOf}
+use Rattle.state.specs.Model.{gateway}
 use Rattle.state.specs.Open.{openReply, openCall}
 use Rattle.state.specs.Refusals.{replyNumber}
-use Rattle.calls.specs.Calls.{orderCall}
+use Rattle.protocol.specs.Calls.{orderCall}
 use Rattle.history.specs.History.{Call, order, turn, close, after}
 use Rattle.rule.specs.Schedules.{Schedule, Closes, sameTable, closesRight, schedules}
 
@@ -36,8 +36,8 @@ Says (laid n keys t) = layout n (modulo n) keys ≡ t
 Says (word t w) = wordOf (group t 0) ≡ w
 Says (unsound t) = Sound (length t) (modulo (length t)) t → ⊥
 Says (ordering k m t w v r) =
-    (replyNumber (openReply gateway modulo k m t) ≡ 0) × (replyNumber (orderCall gateway (openCall gateway modulo k m t .phase) modulo w v .reply) ≡ r)
-Says (calling k m t cs u) = (after gateway modulo k m t cs .phase .shut ≡ true) × (after gateway modulo k m t cs .table ≡ u)
+    (replyNumber (openReply gateway k m t) ≡ 0) × (replyNumber (orderCall gateway (openCall gateway k m t .phase) w v .reply) ≡ r)
+Says (calling k m t cs u) = (after gateway k m t cs .phase .shut ≡ true) × (after gateway k m t cs .table ≡ u)
 Says (closing s) = Closes s
 
 -- the same as a test that computes
@@ -46,8 +46,8 @@ passes (laid n keys t) = sameTable (layout n (modulo n) keys) t
 passes (word t w) = eqb (wordOf (group t 0)) w
 passes (unsound t) = not (isSound (length t) (modulo (length t)) t)
 passes (ordering k m t w v r) =
-    eqb (replyNumber (openReply gateway modulo k m t)) 0 && eqb (replyNumber (orderCall gateway (openCall gateway modulo k m t .phase) modulo w v .reply)) r
-passes (calling k m t cs u) = after gateway modulo k m t cs .phase .shut && sameTable (after gateway modulo k m t cs .table) u
+    eqb (replyNumber (openReply gateway k m t)) 0 && eqb (replyNumber (orderCall gateway (openCall gateway k m t .phase) w v .reply)) r
+passes (calling k m t cs u) = after gateway k m t cs .phase .shut && sameTable (after gateway k m t cs .table) u
 passes (closing s) = closesRight s
 
 unfoldable pub allPass : List Example → Bool

@@ -1,50 +1,50 @@
 // Functions for C and Rust: numbers and slices alone. The header vulzegan.h declares them.
-use rest::Counted;
-use runs::reply_number;
+use singly::refusal_answer;
+use singly::reply_answer;
+use tables::Counted;
 ghost use mathlib.Core.Path.{_≡_};
-ghost use Rattle.layout.specs.Home.{modulo};
-ghost use Rattle.state.specs.Limits.{gateway};
-ghost use Rattle.state.specs.Refusals.{replyNumber};
-ghost use Rattle.rest.specs.Calls.{checkCall, countCall, listCall, listAfter};
-ghost use Rattle.batch.specs.Batch.{Promised};
-ghost use Rattle.exports.specs.Numbers.{countedNumber, RunNumbers};
+ghost use Rattle.state.specs.Model.{gateway};
+ghost use Rattle.tables.specs.Calls.{checkCall, countCall, listCall, listAfter};
+ghost use Rattle.numbered.specs.Numbers.{replyAnswer};
+ghost use Rattle.numbered.specs.Batch.{Promised};
+ghost use Rattle.exports.specs.Numbers.{countedAnswer, RunNumbers};
 
-// The count, or 2 to the power 32 and the number of the refusal.
-fn counted_number(counted: Counted) -> u64
-    ensures { λ r. ⌜ r ≡ countedNumber counted ⌝ }
+// The count, or the number of the refusal.
+fn counted_answer(counted: Counted) -> u64
+    ensures { λ r. ⌜ r ≡ countedAnswer counted ⌝ }
 {
     match counted {
         Counted::Keys(count) => count as u64,
-        Counted::Refused(why) => 4294967296 + why.number() as u64,
+        Counted::Refused(why) => refusal_answer(why),
     }
 }
 
 // Whether the table is sound: 0, or the number of the refusal.
 #[no_mangle]
-pub extern "C" fn vulzegan_check(cells: &[u32]) -> u32
-    ensures { λ r. ⌜ r ≡ replyNumber (checkCall gateway modulo (now (cells .entry))) ⌝ }
+pub extern "C" fn vulzegan_check(cells: &[u32]) -> u64
+    ensures { λ r. ⌜ r ≡ replyAnswer (checkCall gateway (now (cells .entry))) ⌝ }
 {
     let checked = rest::check(cells);
-    reply_number(checked)
+    reply_answer(checked)
 }
 
 // How many keys the table has.
 #[no_mangle]
 pub extern "C" fn vulzegan_count(cells: &[u32]) -> u64
-    ensures { λ r. ⌜ r ≡ countedNumber (countCall gateway modulo (now (cells .entry))) ⌝ }
+    ensures { λ r. ⌜ r ≡ countedAnswer (countCall gateway (now (cells .entry))) ⌝ }
 {
     let counted = rest::count(cells);
-    counted_number(counted)
+    counted_answer(counted)
 }
 
 // Lists the keys in cell order at the front of `out`.
 #[no_mangle]
 pub extern "C" fn vulzegan_list(cells: &[u32], out: &mut [u32]) -> u64
-    ensures { λ r. ⌜ (r ≡ countedNumber (listCall gateway modulo (now (cells .entry)) (now (out .entry))))
-        × (now (out .exit) ≡ listAfter gateway modulo (now (cells .entry)) (now (out .entry))) ⌝ }
+    ensures { λ r. ⌜ (r ≡ countedAnswer (listCall gateway (now (cells .entry)) (now (out .entry))))
+        × (now (out .exit) ≡ listAfter gateway (now (cells .entry)) (now (out .entry))) ⌝ }
 {
     let listed = rest::list(cells, out);
-    counted_number(listed)
+    counted_answer(listed)
 }
 
 // Opens a phase and, if the opening is accepted, applies calls: 0, or the number of the opening's refusal.
@@ -56,15 +56,15 @@ pub extern "C" fn vulzegan_run_calls(
     ops: &[u32],
     workers: &[u32],
     keys: &[u32],
-    answers: &mut [u32],
-) -> u32
-    ensures is_run { λ r. ⌜ RunNumbers gateway modulo kind count (now (cells .entry)) (now (ops .entry)) (now (workers .entry)) (now (keys .entry)) (now (answers .entry))
+    answers: &mut [u64],
+) -> u64
+    ensures is_run { λ r. ⌜ RunNumbers gateway kind count (now (cells .entry)) (now (ops .entry)) (now (workers .entry)) (now (keys .entry)) (now (answers .entry))
         r (now (cells .exit)) (now (answers .exit)) ⌝ }
-    ensures promise { λ r. ⌜ Promised gateway modulo kind count (now (cells .entry)) (now (ops .entry)) (now (workers .entry)) (now (keys .entry)) (now (answers .entry)) ⌝ }
+    ensures promise { λ r. ⌜ Promised gateway kind count (now (cells .entry)) (now (ops .entry)) (now (workers .entry)) (now (keys .entry)) (now (answers .entry)) ⌝ }
 {
     let ran = batch::run_calls(kind, count, cells, ops, workers, keys, answers);
     let reply = ran.reply;
-    reply_number(reply)
+    reply_answer(reply)
 }
 
 // The same, each call by value with the phase tested at each, as single calls are.
@@ -76,13 +76,13 @@ pub extern "C" fn vulzegan_run_calls_singly(
     ops: &[u32],
     workers: &[u32],
     keys: &[u32],
-    answers: &mut [u32],
-) -> u32
-    ensures is_run { λ r. ⌜ RunNumbers gateway modulo kind count (now (cells .entry)) (now (ops .entry)) (now (workers .entry)) (now (keys .entry)) (now (answers .entry))
+    answers: &mut [u64],
+) -> u64
+    ensures is_run { λ r. ⌜ RunNumbers gateway kind count (now (cells .entry)) (now (ops .entry)) (now (workers .entry)) (now (keys .entry)) (now (answers .entry))
         r (now (cells .exit)) (now (answers .exit)) ⌝ }
-    ensures promise { λ r. ⌜ Promised gateway modulo kind count (now (cells .entry)) (now (ops .entry)) (now (workers .entry)) (now (keys .entry)) (now (answers .entry)) ⌝ }
+    ensures promise { λ r. ⌜ Promised gateway kind count (now (cells .entry)) (now (ops .entry)) (now (workers .entry)) (now (keys .entry)) (now (answers .entry)) ⌝ }
 {
     let ran = batch::run_calls_singly(kind, count, cells, ops, workers, keys, answers);
     let reply = ran.reply;
-    reply_number(reply)
+    reply_answer(reply)
 }

@@ -1,21 +1,24 @@
 -- The sheets of specs/Examples, computed.
 use mathlib.Core.Path.{refl}
 use lib.Count.{ones}
-use Rattle.listing.specs.Words.{placeOf}
+use Rattle.words.specs.Words.{placeOf}
 use Rattle.ring.specs.Ring.{wrap, probe, dist, prev}
 use Rattle.ring.specs.Counting.{tally, count}
 use Rattle.layout.specs.Sound.{all, some, clear, isSound}
 use Rattle.rule.specs.Rule.{insertStep, findStep, fits, narrow, deleteStep, rule}
-use Rattle.calls.specs.WellFormed.{isWellFormed}
-use Rattle.lines.specs.Digits.{digitsWithin, digitsOf}
-use Rattle.lines.specs.Grammar.{fieldsOf, digits, leads, valueFrom, numberOf, same, commandOf, readingOf}
-use Rattle.rounds.specs.Rounds.{dealTo, deal, rounds}
+use Rattle.protocol.specs.IsWellFormed.{isWellFormed}
+use Rattle.text.specs.Digits.{digitsWithin, digitsOf}
+use Rattle.text.specs.Bytes.{bytesOf, same}
+use Rattle.text.specs.Fields.{fieldsOf}
+use Rattle.text.specs.Numbers.{digits, leads, valueFrom, isNumber}
+use Rattle.lines.specs.Grammar.{commandIn, areNumbers, numbersOf, readingOf}
+use Rattle.dealing.specs.Deal.{dealTo, deal, laps}
 use Rattle.sheet.specs.Replay.{answerOf}
 use Rattle.feed.specs.Whole.{linesOf, printedFrom, outputOf}
-use Rattle.feed.specs.Examples.{bytesOf, SheetsPromise}
+use Rattle.feed.specs.Examples.{SheetsPromise}
 
 pub sheets-promise : SheetsPromise
 unfolding
-    bytesOf outputOf linesOf printedFrom answerOf readingOf commandOf same numberOf valueFrom leads digits fieldsOf digitsOf digitsWithin
-    rounds deal dealTo isWellFormed rule insertStep findStep deleteStep fits narrow isSound all some clear dist probe prev wrap placeOf count tally ones
+    bytesOf outputOf linesOf printedFrom answerOf readingOf commandIn same numbersOf areNumbers isNumber valueFrom leads digits fieldsOf digitsOf digitsWithin
+    laps deal dealTo isWellFormed rule insertStep findStep deleteStep fits narrow isSound all some clear dist probe prev wrap placeOf count tally ones
 sheets-promise = (refl, (refl, (refl, (refl, (refl, (refl, (refl, (refl, (refl, (refl, (refl, (refl, (refl, (refl, (refl, (refl, tt))))))))))))))))

@@ -8,9 +8,11 @@ use lib.ListN.{length, take, getD, length-take}
 use lib.Seq.{take-all, take-suc}
 use lib.Dec.{eqb}
 use borrow.Author.Tests.{eqb-true, eqb-false, ne-eqb, eq-eqb}
-use Rattle.lines.specs.Grammar.{inFront, byteAt}
-use Rattle.lines.proofs.Fields.{byte-nil, byte-here, byte-later}
-use Rattle.lines.proofs.Test.{by-test}
+use Rattle.text.specs.Bytes.{byteAt}
+use Rattle.text.specs.Fields.{inFront}
+use Rattle.lines.specs.Grammar.{keptBytes}
+use Rattle.text.proofs.Bytes.{byte-nil, byte-here, byte-later}
+use Rattle.text.proofs.Test.{by-test}
 use Rattle.feed.specs.Feed.{Kept, behindLine, lineOutput, withByte, fed, printed}
 use Rattle.feed.specs.Promise.{Plain, AllPlain, written}
 use Rattle.feed.specs.Whole.{linesOf}
@@ -93,18 +95,18 @@ last-written [] l h p some = last-open l p some
 last-written (x ∷ ls) l h p some =
     ap linesOf (append-assoc x (10 ∷ written ls) l) ∙ one-line x (written ls ++ l) (h .0) ∙ ap (_∷_ x) (last-written ls l (h .1) p some)
 
--- ---- a replay that goes on, with the first 28 bytes of a line
+-- ---- a replay that goes on, with the first bytes of a line
 abbrev pub withLine : Kept → List ℕ → Kept
 withLine k l = record { state = k .state; number = k .number; line = l; ended = k .ended }
 
 -- bytes without a newline make the line longer and print nothing
-pub fed-plain : (bs : List ℕ) (k : Kept) → k .ended ≡ false → length (k .line) ≤ 28 → Plain bs → fed k bs ≡ withLine k (take 28 (k .line ++ bs))
+pub fed-plain : (bs : List ℕ) (k : Kept) → k .ended ≡ false → length (k .line) ≤ keptBytes → Plain bs → fed k bs ≡ withLine k (take keptBytes (k .line ++ bs))
 unfolding fed
-fed-plain [] k goes few h = ap (withLine k) (sym (ap (take 28) (append-nil (k .line)) ∙ take-all 28 (k .line) few))
+fed-plain [] k goes few h = ap (withLine k) (sym (ap (take keptBytes) (append-nil (k .line)) ∙ take-all keptBytes (k .line) few))
 fed-plain (b ∷ bs) k goes few h =
     ap (λ (x : Kept). fed x bs) (behind-byte k goes b (plain-first b bs h))
-    ∙ fed-plain bs (withByte k b) goes (rw (length-take 28 (k .line ++ b ∷ [])) (omega arith)) (plain-rest b bs h)
-    ∙ ap (withLine k) (front-more 28 (k .line ++ b ∷ []) bs ∙ ap (take 28) (append-assoc (k .line) (b ∷ []) bs))
+    ∙ fed-plain bs (withByte k b) goes (rw (length-take keptBytes (k .line ++ b ∷ [])) (omega arith)) (plain-rest b bs h)
+    ∙ ap (withLine k) (front-more keptBytes (k .line ++ b ∷ []) bs ∙ ap (take keptBytes) (append-assoc (k .line) (b ∷ []) bs))
 
 pub printed-plain : (bs : List ℕ) (k : Kept) → k .ended ≡ false → Plain bs → printed k bs ≡ []
 unfolding printed
@@ -114,12 +116,12 @@ printed-plain (b ∷ bs) k goes h =
     ∙ printed-plain bs (withByte k b) goes (plain-rest b bs h)
 
 -- bytes up to the first newline and the newline answer the line
-module _ (bs : List ℕ) (k : Kept) (goes : k .ended ≡ false) (few : length (k .line) ≤ 28) (some : byteAt 10 bs < length bs) where
+module _ (bs : List ℕ) (k : Kept) (goes : k .ended ≡ false) (few : length (k .line) ≤ keptBytes) (some : byteAt 10 bs < length bs) where
   abbrev end : ℕ
   end = byteAt 10 bs
 
   abbrev full : Kept
-  full = withLine k (take 28 (k .line ++ take end bs))
+  full = withLine k (take keptBytes (k .line ++ take end bs))
 
   cut : take (suc end) bs ≡ take end bs ++ 10 ∷ []
   cut = take-suc bs end 0 some ∙ ap (λ (b : ℕ). take end bs ++ b ∷ []) (found bs some)

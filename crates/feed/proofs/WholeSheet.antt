@@ -7,8 +7,9 @@ use native.Mathlib.Omega.{arith}
 use lib.ListN.{length, take}
 use lib.Dec.{eqb}
 use borrow.Author.Tests.{eqb-true, eqb-false, ne-eqb}
-use Rattle.lines.specs.Grammar.{inFront, readingOf}
-use Rattle.lines.proofs.Test.{by-test}
+use Rattle.text.specs.Fields.{inFront}
+use Rattle.lines.specs.Grammar.{readingOf, keptBytes}
+use Rattle.text.proofs.Test.{by-test}
 use Rattle.lines.proofs.Theorem.{lines-promise}
 use Rattle.sheet.specs.Replay.{State, Answer, answerOf, rendered}
 use Rattle.feed.specs.Feed.{Kept, begin, longer, answerTo, behindLine, lineOutput, withByte, behind, byteOutput, fed, printed, lastOutput, replayed, concatenated}
@@ -36,8 +37,8 @@ unfolding withFront
 front-last b [] = refl
 front-last b (x ∷ p) = ap (inFront b) (front-last x p)
 
--- ---- 28 bytes of it are enough
-pub answer-front : (k : Kept) (p : List ℕ) → k .line ≡ take 28 p → answerTo k ≡ answerOf (k .state) (readingOf p)
+-- ---- the bytes kept of it are enough
+pub answer-front : (k : Kept) (p : List ℕ) → k .line ≡ take keptBytes p → answerTo k ≡ answerOf (k .state) (readingOf p)
 answer-front k p e = ap (λ (l : List ℕ). answerOf (k .state) (readingOf l)) e ∙ ap (answerOf (k .state)) (lines-promise .reading p .front)
 
 -- ---- the end
@@ -65,8 +66,8 @@ cond-same : {A : Type 0} (b : Bool) (x : A) → cond b x x ≡ x
 cond-same true x = refl
 cond-same false x = refl
 
-at-end : (k : Kept) (p : List ℕ) → k .ended ≡ false → k .line ≡ take 28 p → lastOutput k ≡ printedFrom (k .state) (suc (k .number)) (withFront p [])
-unfolding withFront
+at-end : (k : Kept) (p : List ℕ) → k .ended ≡ false → k .line ≡ take keptBytes p → lastOutput k ≡ printedFrom (k .state) (suc (k .number)) (withFront p [])
+unfolding withFront keptBytes
 at-end k [] goes e = last-none k goes e ∙ sym (no-line _ _)
 at-end k (x ∷ p) goes e =
     last-some k goes (rw e (omega arith))
@@ -82,10 +83,10 @@ unfolding fed printed
 output-byte k b bs = append-assoc (byteOutput k b) (printed (behind k b) bs) (lastOutput (fed (behind k b) bs))
 
 abbrev Follows : List ℕ → Type 0
-Follows bs = (k : Kept) (p : List ℕ) → k .ended ≡ false → k .line ≡ take 28 p → output k bs ≡ printedFrom (k .state) (suc (k .number)) (withFront p (linesOf bs))
+Follows bs = (k : Kept) (p : List ℕ) → k .ended ≡ false → k .line ≡ take keptBytes p → output k bs ≡ printedFrom (k .state) (suc (k .number)) (withFront p (linesOf bs))
 
 one-byte : (b : ℕ) (bs : List ℕ) → Follows bs → Follows (b ∷ bs)
-unfolding withFront
+unfolding withFront keptBytes
 one-byte b bs next k p goes e = by-test (eqb b 10) newline other
   where
     all : output (behindLine k) bs ≡ cond (answerTo k .ended) [] (printedFrom (answerTo k .state) (suc (suc (k .number))) (linesOf bs))
@@ -106,7 +107,7 @@ one-byte b bs next k p goes e = by-test (eqb b 10) newline other
         let n : b ≡ 10 → ⊥ = eqb-false b 10 t in
         output-byte k b bs
         ∙ ap₂ (λ (x : List ℕ) (y : Kept). x ++ output y bs) (byte-output k goes b n) (behind-byte k goes b n)
-        ∙ next (withByte k b) (p ++ b ∷ []) goes (ap (λ (l : List ℕ). longer l b) e ∙ front-more 28 p (b ∷ []))
+        ∙ next (withByte k b) (p ++ b ∷ []) goes (ap (λ (l : List ℕ). longer l b) e ∙ front-more keptBytes p (b ∷ []))
         ∙ ap (printedFrom (k .state) (suc (k .number))) (sym (ap (withFront p) (lines-byte b bs n) ∙ front-byte p b (linesOf bs)))
 
 follows : (bs : List ℕ) → Follows bs
@@ -115,7 +116,7 @@ follows [] = at-end
 follows (b ∷ bs) = one-byte b bs (follows bs)
 
 pub whole-sheet : (input : List ℕ) → printed begin input ++ lastOutput (fed begin input) ≡ outputOf input
-unfolding outputOf withFront
+unfolding outputOf withFront keptBytes
 whole-sheet input = follows input begin [] refl refl
 
 -- ---- in parts

@@ -2,15 +2,10 @@
 use mathlib.Core.Path.{_≡_}
 use mathlib.Core.List.{List, [], _∷_, _++_}
 use Prim.Native.Nat.{ℕ}
-use Prim.Native.Char.{code}
-use Prim.Native.String.{String, [] as nothing, _∷_ as _then_}
+use Prim.Native.String.{String}
 use lib.ListN.{replicate}
+use Rattle.text.specs.Bytes.{bytesOf}
 use Rattle.feed.specs.Whole.{outputOf}
-
--- the bytes of a text in ASCII
-unfoldable pub bytesOf : String → List ℕ
-bytesOf nothing = []
-bytesOf (c then s) = code c ∷ bytesOf s
 
 pub record Sheet : Type 0 where
   pub input : List ℕ

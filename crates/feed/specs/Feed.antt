@@ -4,11 +4,11 @@ use mathlib.Core.List.{List, [], _∷_, _++_}
 use Prim.Native.Nat.{ℕ, suc}
 use lib.Dec.{eqb}
 use lib.ListN.{length, take}
-use Rattle.lines.specs.Grammar.{readingOf}
+use Rattle.lines.specs.Grammar.{readingOf, keptBytes}
 use Rattle.sheet.specs.Replay.{State, blank, Answer, answerOf, rendered}
 
--- the state behind the lines that are whole, how many those are, the first 28 bytes of the line that is not whole yet, and whether the replay
--- has ended
+-- the state behind the lines that are whole, how many those are, the first bytes of the line that is not whole yet, and whether the replay has
+-- ended
 pub record Kept : Type 0 where
   pub state : State
   pub number : ℕ
@@ -19,9 +19,9 @@ pub record Kept : Type 0 where
 abbrev pub begin : Kept
 begin = record { state = blank; number = 0; line = []; ended = false }
 
--- a line with one byte more, of which 28 are enough
+-- a line with one byte more, of which so many bytes are kept as show what it says
 abbrev pub longer : List ℕ → ℕ → List ℕ
-longer l b = take 28 (l ++ b ∷ [])
+longer l b = take keptBytes (l ++ b ∷ [])
 
 -- ---- the line that is not whole yet, taken as whole
 abbrev pub answerTo : Kept → Answer

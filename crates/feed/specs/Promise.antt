@@ -4,7 +4,7 @@ use mathlib.Core.Bool.{true}
 use mathlib.Core.List.{List, [], _∷_, _++_}
 use Prim.Native.Nat.{ℕ, _<_}
 use lib.ListN.{length}
-use Rattle.lines.specs.Grammar.{byteAt}
+use Rattle.text.specs.Bytes.{byteAt}
 use Rattle.feed.specs.Feed.{Kept, begin, fed, printed, lastOutput, replayed, concatenated}
 use Rattle.feed.specs.Whole.{linesOf, outputOf}
 

@@ -6,8 +6,8 @@ use lib.ListN.{length}
 use Rattle.ring.specs.Counting.{over}
 use Rattle.ring.specs.Ring.{dist}
 use Rattle.layout.proofs.Path.{On}
-use Rattle.state.specs.declared.Activity.{Activity}
-use Rattle.state.specs.declared.Activity.the-variants.{Idle, Reading, Replacing, WalkingBack, SeekingForward, SeekingBack}
+use Rattle.activities.specs.declared.Activity.{Activity}
+use Rattle.activities.specs.declared.Activity.the-variants.{Idle, Reading, Replacing, WalkingBack, SeekingForward, SeekingBack}
 use Rattle.rule.specs.Events.{Run, worker}
 use Rattle.phases.specs.Promise.{Finds}
 

@@ -16,14 +16,15 @@ use Rattle.layout.specs.Sound.{Sound}
 use Rattle.layout.proofs.Path.{On, home-dist, on-home, next-dist, on-next, passed, found-here}
 use Rattle.layout.proofs.Sets.{held-in, in-holds}
 use Rattle.layout.proofs.Sound.{sound-paths}
-use Rattle.state.specs.declared.Activity.{Activity}
-use Rattle.state.specs.declared.Activity.the-variants.{Idle, Reading, Replacing, WalkingBack, SeekingForward, SeekingBack}
+use Rattle.activities.specs.declared.Activity.{Activity}
+use Rattle.activities.specs.declared.Activity.the-variants.{Idle, Reading, Replacing, WalkingBack, SeekingForward, SeekingBack}
 use Rattle.rule.specs.declared.Answer.{Answer}
 use Rattle.rule.specs.declared.Answer.the-variants.{WentOn, Yes, No}
 use Rattle.rule.specs.declared.Answer.the-variants as answer
 use Rattle.rule.specs.declared.Outcome.{Outcome}
 use Rattle.rule.specs.Rule.{goes, ends, findStep, rule, start}
-use Rattle.rule.specs.Events.{busy, keyOf, Said, Run, worker, tells, ordered, opened}
+use Rattle.activities.specs.Activities.{busy, keyOf}
+use Rattle.rule.specs.Events.{Said, Run, worker, tells, ordered, opened}
 use Rattle.phases.specs.Promise.{Right}
 use Rattle.phases.proofs.Crew.{crew-idle, set-all, opening-sum, moved-sum}
 use Rattle.phases.proofs.Steps.{by-content, cellOf, movedTo, moved}

@@ -3,28 +3,16 @@ use mathlib.Core.Path.{ap, _∙_}
 use mathlib.Core.List.{List}
 use Prim.Native.Nat.{ℕ, _+_, _*_, _≤_, _<_}
 use native.Mathlib.Omega.{arith}
-use lib.Dec.{T}
 use lib.ListN.{length}
 use Rattle.layout.specs.Sound.{Sound}
-use Rattle.state.specs.declared.Activity.{Activity}
-use Rattle.state.specs.declared.Activity.the-variants.{Idle, Reading, Replacing, WalkingBack, SeekingForward, SeekingBack}
-use Rattle.rule.specs.WellFormed.{activityOk}
-use Rattle.rule.specs.Events.{Run, Event, worker, event, run, opened, after}
+use Rattle.rule.specs.Events.{Run, Event, event, run, opened, after}
 use Rattle.phases.specs.Promise.{mostRest, Always, Finds, stepsOf}
-use Rattle.phases.proofs.Crew.{keyed}
 use Rattle.phases.proofs.Events.{event-by, run-keeps, run-paid}
+use Rattle.phases.proofs.Formed.{formed}
 use Rattle.phases.proofs.Formula.{under}
 use Rattle.phases.proofs.Rounds.{steps-ordered}
-use Rattle.find.proofs.Invariant.{Shape, Fair, potential}
+use Rattle.find.proofs.Invariant.{Fair, potential}
 use Rattle.find.proofs.Step.{opening-fair, opening-potential, potential-most, order-fair, order-pays, step-keeps}
-
-formed : (n : ℕ) (home : ℕ → ℕ) (t : List ℕ) (a : Activity) → Shape n home t a → T (activityOk 3 n a)
-formed n home t Idle sh = tt
-formed n home t (Reading v i) o = keyed n v i (o .key) (o .inside)
-formed n home t (Replacing v k j x) sh = absurd sh
-formed n home t (WalkingBack v k) sh = absurd sh
-formed n home t (SeekingForward v k j) sh = absurd sh
-formed n home t (SeekingBack v k j x p) sh = absurd sh
 
 module _ (n W : ℕ) (home : ℕ → ℕ) (hb : (x : ℕ) → home x < n) (t : List ℕ) (sound : Sound n home t) where
   event-fair : (e : Event) (s : Run) → Fair n W home t s → Fair n W home t (event 3 n home e s)
@@ -66,6 +54,6 @@ module _ (n W : ℕ) (home : ℕ → ℕ) (hb : (x : ℕ) → home x < n) (t : L
         record {
           sized = ap length (finds .unchanged) ∙ sound .sized;
           crew = fair .crew;
-          formed = λ w. formed n home t (worker s w) (fair .shape w);
+          formed = formed 3 n home hb W t es;
           bounded = omega (arith, steps-bounded, under n W (length (s .ordered)) n (omega arith));
         }

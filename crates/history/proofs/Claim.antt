@@ -14,18 +14,18 @@ use Rattle.layout.specs.Layout.{In, layout}
 use Rattle.layout.specs.Sound.{Sound}
 use Rattle.layout.proofs.Theorem as layouts
 use Rattle.rule.specs.Events as events
-use Rattle.rule.specs.Events.{keyOf, Said, Run, Event}
-use Rattle.rule.specs.WellFormed.{activityOk}
+use Rattle.activities.specs.Activities.{keyOf, activityOk}
+use Rattle.rule.specs.Events.{Said, Run, Event}
 use Rattle.phases.specs.Promise as phases
 use Rattle.phases.specs.Promise.{mostSteps, Always, Inserts, Deletes, Finds, Phases}
-use Rattle.state.specs.Limits.{Limits}
-use Rattle.state.specs.declared.Activity.the-variants.{Idle}
-use Rattle.calls.specs.Calls.{doing}
-use Rattle.calls.specs.WellFormed.{isWellFormed}
-use Rattle.refusals.specs.WellFormed.{Size, Crew, Kind}
-use Rattle.refusals.proofs.Tests.{true-says}
-use Rattle.refusals.proofs.Theorem.{well-formed}
-use Rattle.refusals.proofs.WellFormed.{suits-says}
+use Rattle.state.specs.Model.{Model}
+use Rattle.activities.specs.declared.Activity.the-variants.{Idle}
+use Rattle.protocol.specs.Bars.{doing}
+use Rattle.protocol.specs.IsWellFormed.{isWellFormed}
+use Rattle.protocol.specs.WellFormed.{Size, Crew, Kind}
+use Rattle.ring.proofs.Tests.{true-says}
+use Rattle.protocol.proofs.Theorem.{well-formed}
+use Rattle.activities.proofs.Activities.{suits-says}
 use Rattle.history.specs.History.{History}
 use Rattle.history.specs.Promise.{keysAfter, Carried}
 use Rattle.history.proofs.Opening.{by-kinds}
@@ -61,8 +61,8 @@ module _ (k n m : ℕ) (home : ℕ → ℕ) (t : List ℕ) (s : History) (r : Ru
   past-idle : (w : ℕ) → m ≤ w → getD (r .workers) w Idle ≡ Idle
   past-idle w l = List·getD-eq-default (r .workers) Idle (omega (arith, h .crew .all))
 
-  pub formed : (L : Limits) → Size L n → Crew L m → Kind k → isWellFormed L (s .phase) ≡ true
-  formed L a b c = well-formed L (s .phase) .1
+  pub formed : (M : Model) → Size M n → Crew M m → Kind k → isWellFormed M (s .phase) ≡ true
+  formed M a b c = well-formed M (s .phase) .1
       (record {
         kind = rw (h .kind) c;
         size = rw (h .cells) a;

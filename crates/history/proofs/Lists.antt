@@ -1,11 +1,10 @@
 -- One call more at the end of a list of calls.
 use mathlib.Core.Path.{_≡_, refl}
 use mathlib.Core.List.{List, [], _∷_, _++_}
-use Prim.Native.Nat.{ℕ}
-use Rattle.state.specs.Limits.{Limits}
+use Rattle.state.specs.Model.{Model}
 use Rattle.history.specs.History.{Call, History, call, run}
 
-pub run-last : (L : Limits) (home : ℕ → ℕ → ℕ) (cs : List Call) (c : Call) (s : History) → run L home (cs ++ (c ∷ [])) s ≡ call L home c (run L home cs s)
+pub run-last : (M : Model) (cs : List Call) (c : Call) (s : History) → run M (cs ++ (c ∷ [])) s ≡ call M c (run M cs s)
 unfolding run
-run-last L home [] c s = refl
-run-last L home (d ∷ cs) c s = run-last L home cs c (call L home d s)
+run-last M [] c s = refl
+run-last M (d ∷ cs) c s = run-last M cs c (call M d s)

@@ -11,13 +11,15 @@ use Rattle.ring.proofs.Split.{by-eq}
 use Rattle.rule.specs.Events as events
 use Rattle.phases.proofs.Crew.{replicate-at}
 use Rattle.phases.proofs.Steps.{either}
-use Rattle.state.specs.Limits.{Limits}
-use Rattle.state.specs.Open.{idle, allowance, openReply}
-use Rattle.state.specs.declared.Activity.the-variants.{Idle}
+use Rattle.state.specs.Model.{Model, Proper}
+use Rattle.activities.specs.Activities.{idle}
+use Rattle.activities.specs.Kinds.{allowance}
+use Rattle.state.specs.Open.{openReply}
+use Rattle.activities.specs.declared.Activity.the-variants.{Idle}
 use Rattle.state.specs.declared.Reply.the-variants.{Accepted}
-use Rattle.refusals.specs.WellFormed.{Kind}
-use Rattle.refusals.proofs.Tests.{not-both}
-use Rattle.refusals.proofs.Theorem.{open-passed}
+use Rattle.protocol.specs.WellFormed.{Kind}
+use Rattle.ring.proofs.Tests.{not-both}
+use Rattle.protocol.proofs.Theorem.{open-passed}
 use Rattle.history.specs.History.{opening}
 use Rattle.history.proofs.Pending.{agrees-idle}
 use Rattle.history.proofs.Simulation.{Shows}
@@ -25,14 +27,21 @@ use Rattle.history.proofs.Simulation.{Shows}
 pub by-kinds {ℓ} : {C : Type ℓ} (k : ℕ) → Kind k → (k ≡ 1 → C) → (k ≡ 2 → C) → (k ≡ 3 → C) → C
 by-kinds k e f g h = by-eq k 1 f (λ a. by-eq k 2 g (λ b. h (omega arith)))
 
-module _ (L : Limits) (home : ℕ → ℕ → ℕ) (k m : ℕ) (t : List ℕ) (hb : (x : ℕ) → home (length t) x < length t) (accepted : openReply L home k m t ≡ Accepted) where
+module _ (M : Model) (proper : Proper M) (k m : ℕ) (t : List ℕ) (accepted : openReply M k m t ≡ Accepted) where
+  some-cells : 0 < length t
+  some-cells = omega (arith, proper .some, open-passed M k m t accepted .0)
+
+  -- homes are cells of the table
+  pub homes : (x : ℕ) → M .home (length t) x < length t
+  homes x = proper .homes (length t) x some-cells
+
   allowed : allowance k t < length t
-  allowed = either (λ x. x < length t) (eqb k 1) (omega (arith, hb 0, count-le (λ x. eqb x 0) t)) (omega (arith, hb 0))
+  allowed = either (λ x. x < length t) (eqb k 1) (omega (arith, some-cells, count-le (λ x. eqb x 0) t)) (omega (arith, some-cells))
 
-  manned : m ≤ L .mostWorkers
-  manned = open-passed L home k m t accepted .1 .1
+  manned : m ≤ M .room
+  manned = omega (arith, proper .places, open-passed M k m t accepted .1)
 
-  pub opening-shows : Shows k (length t) m (opening L home k m t) (events.opened k m t)
+  pub opening-shows : Shows k (length t) m (opening M k m t) (events.opened k m t)
   opening-shows = rw accepted
       (record {
         kind = refl;
@@ -43,8 +52,8 @@ module _ (L : Limits) (home : ℕ → ℕ → ℕ) (k m : ℕ) (t : List ℕ) (h
           records = rw length-replicate manned;
           places = rw length-replicate manned;
           all = length-replicate m Idle;
-          same = λ w. ap (λ x. x .activity) (replicate-at idle (L .mostWorkers) w) ∙ sym (replicate-at Idle m w);
-          agree = λ w. rw (replicate-at {A = ℕ} 0 (L .mostWorkers) w, replicate-at Idle m w) (agrees-idle k);
+          same = λ w. ap (λ x. x .activity) (replicate-at idle (M .room) w) ∙ sym (replicate-at Idle m w);
+          agree = λ w. rw (replicate-at {A = ℕ} 0 (M .room) w, replicate-at Idle m w) (agrees-idle k);
         };
         table = refl;
         ordered = refl;

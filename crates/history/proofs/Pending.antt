@@ -11,8 +11,8 @@ use lib.Seq.{getD-set-same, getD-set-other, set-getD}
 use borrow.Author.Tests.{lt-ltb}
 use Rattle.ring.specs.Counting.{bit}
 use Rattle.ring.proofs.Split.{by-eq}
-use Rattle.rule.proofs.Idle.{rests}
-use Rattle.rule.specs.Events.{busy, keyOf}
+use Rattle.activities.proofs.Activities.{rests}
+use Rattle.activities.specs.Activities.{busy, keyOf, idle}
 use Rattle.rule.specs.Rule.{findStep, rule, start}
 use Rattle.rule.specs.declared.Answer.{Answer}
 use Rattle.rule.specs.declared.Answer.the-variants.{WentOn, Finished, Yes, No}
@@ -20,10 +20,9 @@ use Rattle.rule.specs.declared.Answer.the-variants as answer
 use Rattle.rule.specs.declared.Outcome.{Outcome}
 use Rattle.phases.proofs.Finishing.{final, settles}
 use Rattle.phases.proofs.Steps.{either}
-use Rattle.state.specs.Open.{idle}
-use Rattle.state.specs.declared.Activity.{Activity}
-use Rattle.state.specs.declared.Activity.the-variants.{Idle, Reading, Replacing, WalkingBack, SeekingForward, SeekingBack}
-use Rattle.state.specs.declared.Worker.{Worker}
+use Rattle.activities.specs.declared.Activity.{Activity}
+use Rattle.activities.specs.declared.Activity.the-variants.{Idle, Reading, Replacing, WalkingBack, SeekingForward, SeekingBack}
+use Rattle.activities.specs.declared.Worker.{Worker}
 use Rattle.history.specs.History.{isFinish}
 
 -- x is the key of the unfinished operation of a worker with activity a, 0 if there is none

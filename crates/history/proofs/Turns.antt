@@ -6,21 +6,22 @@ use native.Mathlib.Omega.{arith}
 use lib.ListN.{length, getD, length-set, List·getD-eq-default}
 use lib.Seq.{getD-set-same, getD-set-other}
 use Rattle.ring.proofs.Split.{by-lt}
+use Rattle.activities.specs.Activities.{idle}
+use Rattle.activities.proofs.Activities.{cells-below}
 use Rattle.rule.specs.Rule.{touched, rule}
+use Rattle.rule.proofs.Suits.{touched-below}
 use Rattle.rule.specs.declared.Outcome.{Outcome}
 use Rattle.rule.specs.declared.Place.{Place}
 use Rattle.rule.specs.declared.Place.the-variants.{Nowhere, At}
-use Rattle.state.specs.Limits.{Limits}
-use Rattle.state.specs.Open.{idle}
-use Rattle.state.specs.declared.Activity.{Activity}
-use Rattle.state.specs.declared.Activity.the-variants.{Idle, Reading, Replacing, WalkingBack, SeekingForward, SeekingBack}
+use Rattle.state.specs.Model.{Model}
+use Rattle.activities.specs.declared.Activity.{Activity}
 use Rattle.state.specs.declared.Phase.{Phase}
 use Rattle.state.specs.declared.Reply.the-variants.{Accepted}
-use Rattle.state.specs.declared.Worker.{Worker}
-use Rattle.calls.specs.Calls.{doing, withWorker, turnCheck, turnTable}
-use Rattle.calls.specs.declared.TurnReply.the-variants.{Answered}
-use Rattle.refusals.specs.WellFormed.{Suits}
-use Rattle.refusals.proofs.Theorem.{turn-passed}
+use Rattle.activities.specs.declared.Worker.{Worker}
+use Rattle.protocol.specs.Bars.{doing}
+use Rattle.protocol.specs.Calls.{withWorker, turnCheck, turnTable}
+use Rattle.protocol.specs.declared.TurnReply.the-variants.{Answered}
+use Rattle.protocol.proofs.Theorem.{turn-passed}
 use Rattle.history.specs.Promise.{Alike, TwoTurnsPromise}
 
 -- a worker that touches a cell is in the list of workers
@@ -33,38 +34,30 @@ moved : (p : Phase) (w : ℕ) (x : Activity) → w < length (p .workers) → doi
 moved p w x l = ap (λ (y : Worker). y .activity) (getD-set-same (p .workers) w (record { activity = x }) idle l)
 
 -- the cell that a worker of a well-formed phase state touches is in the table
-suits-inside : (k n : ℕ) (a : Activity) (c : ℕ) → Suits k n a → touched a ≡ At c → c < n
-suits-inside k n Idle c s e = absurd (let z : _≡_ {A = ℕ} 0 1 = cc in omega arith)
-suits-inside k n (Reading v i) c s e = let is : i ≡ c = cc in omega arith
-suits-inside k n (Replacing v i j x) c s e = let is : i ≡ c = cc in omega arith
-suits-inside k n (WalkingBack v i) c s e = let is : i ≡ c = cc in omega arith
-suits-inside k n (SeekingForward v i j) c s e = let is : j ≡ c = cc in omega arith
-suits-inside k n (SeekingBack v i j x p) c s e = let is : p ≡ c = cc in omega arith
-
-inside : (L : Limits) (home : ℕ → ℕ → ℕ) (p : Phase) (t : List ℕ) (w c : ℕ) → turnCheck L p t w ≡ Accepted → touched (doing p w) ≡ At c → c < length t
-inside L home p t w c e is =
-    let (formed, _, cells, below) = turn-passed L home p t w e in
-    omega (arith, suits-inside (p .kind) (p .length) (doing p w) c (formed .workers w below) is)
+inside : (M : Model) (p : Phase) (t : List ℕ) (w c : ℕ) → turnCheck M p t w ≡ Accepted → touched (doing p w) ≡ At c → c < length t
+inside M p t w c e is =
+    let (formed, _, cells, below) = turn-passed M p t w e in
+    omega (arith, touched-below (p .length) (doing p w) c (cells-below (p .kind) (p .length) (doing p w) (formed .workers w below)) is)
 
 pub alike : TwoTurnsPromise
-alike L home p q t u w z a b kind sized same held = by (touched (doing p w)) refl (ap touched (sym same))
+alike M p q t u w z a b kind sized same held = by (touched (doing p w)) refl (ap touched (sym same))
   where
     -- the rule gives both turns one outcome
     outcome : (c : ℕ) → touched (doing p w) ≡ At c
-        → rule (p .kind) (p .length) (home (p .length)) (doing p w) (getD t c 0) ≡ rule (q .kind) (q .length) (home (q .length)) (doing q z) (getD u c 0)
+        → rule (p .kind) (p .length) (M .home (p .length)) (doing p w) (getD t c 0) ≡ rule (q .kind) (q .length) (M .home (q .length)) (doing q z) (getD u c 0)
     outcome c is =
-        let l : p .length ≡ q .length = omega (arith, turn-passed L home p t w a .2, turn-passed L home q u z b .2) in
+        let l : p .length ≡ q .length = omega (arith, turn-passed M p t w a .2, turn-passed M q u z b .2) in
         let e : getD t c 0 ≡ getD u c 0 = held c is in
         rw (kind, l, same, e)
 
-    cell : (c : ℕ) → touched (doing p w) ≡ At c → getD (turnTable L p t w home) c 0 ≡ getD (turnTable L q u z home) c 0
+    cell : (c : ℕ) → touched (doing p w) ≡ At c → getD (turnTable M p t w) c 0 ≡ getD (turnTable M q u z) c 0
     cell c is = rw (a, b, ← same, is) (
-        getD-set-same t c _ 0 (inside L home p t w c a is)
+        getD-set-same t c _ 0 (inside M p t w c a is)
         ∙ ap (λ (r : Outcome). r .content) (outcome c is)
-        ∙ sym (getD-set-same u c _ 0 (inside L home q u z c b (ap touched (sym same) ∙ is)))
+        ∙ sym (getD-set-same u c _ 0 (inside M q u z c b (ap touched (sym same) ∙ is)))
         )
 
-    by : (x : Place) → touched (doing p w) ≡ x → touched (doing q z) ≡ touched (doing p w) → Alike L home p q t u w z
+    by : (x : Place) → touched (doing p w) ≡ x → touched (doing q z) ≡ touched (doing p w) → Alike M p q t u w z
     by Nowhere is is′ =
         record {
           replies = rw (a, b, is′, is);

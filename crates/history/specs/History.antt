@@ -10,14 +10,14 @@ use Rattle.rule.specs.declared.Answer.{Answer}
 use Rattle.rule.specs.declared.Answer.the-variants.{WentOn, Finished, Yes, No}
 use Rattle.rule.specs.declared.Answer.the-variants as answer
 use Rattle.rule.specs.Events.{Said, tells}
-use Rattle.state.specs.Limits.{Limits}
+use Rattle.state.specs.Model.{Model}
 use Rattle.state.specs.Open.{openCall}
 use Rattle.state.specs.declared.Phase.{Phase}
 use Rattle.state.specs.declared.Reply.{Reply}
 use Rattle.state.specs.declared.Reply.the-variants.{Accepted, Refused}
-use Rattle.calls.specs.declared.TurnReply.{TurnReply}
-use Rattle.calls.specs.declared.TurnReply.the-variants as turnReply
-use Rattle.calls.specs.Calls.{closeCall, orderCall, turnCall, turnTable}
+use Rattle.protocol.specs.declared.TurnReply.{TurnReply}
+use Rattle.protocol.specs.declared.TurnReply.the-variants as turnReply
+use Rattle.protocol.specs.Calls.{closeCall, orderCall, turnCall, turnTable}
 
 pub data Call : Type 0 where
   order : (w v : ℕ) → Call
@@ -68,11 +68,11 @@ afterTurn w t p (turnReply.Answered a) s = record {
 }
 afterTurn w t p (turnReply.Refused r) s = record { table = t; phase = p; ordered = s .ordered; pending = s .pending; said = s .said; counted = s .counted }
 
-module _ (L : Limits) (home : ℕ → ℕ → ℕ) where
+module _ (M : Model) where
   unfoldable pub call : Call → History → History
-  call (order w v) s = let r = orderCall L (s .phase) home w v in afterOrder w v (r .phase) (r .reply) s
-  call (turn w) s = let r = turnCall L (s .phase) (s .table) w home in afterTurn w (turnTable L (s .phase) (s .table) w home) (r .phase) (r .reply) s
-  call close s = record { table = s .table; phase = closeCall L (s .phase) .phase; ordered = s .ordered; pending = s .pending; said = s .said; counted = s .counted }
+  call (order w v) s = let r = orderCall M (s .phase) w v in afterOrder w v (r .phase) (r .reply) s
+  call (turn w) s = let r = turnCall M (s .phase) (s .table) w in afterTurn w (turnTable M (s .phase) (s .table) w) (r .phase) (r .reply) s
+  call close s = record { table = s .table; phase = closeCall M (s .phase) .phase; ordered = s .ordered; pending = s .pending; said = s .said; counted = s .counted }
 
   -- a list of calls, the first one first
   unfoldable pub run : List Call → History → History
@@ -83,9 +83,9 @@ module _ (L : Limits) (home : ℕ → ℕ → ℕ) where
   abbrev pub opening : ℕ → ℕ → List ℕ → History
   opening k m t = record {
     table = t;
-    phase = openCall L home k m t .phase;
+    phase = openCall M k m t .phase;
     ordered = [];
-    pending = replicate (L .mostWorkers) 0;
+    pending = replicate (M .room) 0;
     said = [];
     counted = 0;
   }

@@ -17,14 +17,15 @@ use Rattle.ring.proofs.Counting.{tally-up, tally-max}
 use Rattle.ring.proofs.Line.{position, line}
 use Rattle.ring.proofs.Split.{by-eq}
 use Rattle.layout.proofs.Path.{On}
-use Rattle.state.specs.declared.Activity.{Activity}
-use Rattle.state.specs.declared.Activity.the-variants.{Idle, Reading, Replacing, WalkingBack, SeekingForward, SeekingBack}
+use Rattle.activities.specs.declared.Activity.{Activity}
+use Rattle.activities.specs.declared.Activity.the-variants.{Idle, Reading, Replacing, WalkingBack, SeekingForward, SeekingBack}
 use Rattle.rule.specs.declared.Answer.{Answer}
 use Rattle.rule.specs.declared.Answer.the-variants.{WentOn, Finished}
 use Rattle.rule.specs.declared.Answer.the-variants as answer
 use Rattle.rule.specs.declared.Outcome.{Outcome}
 use Rattle.rule.specs.Rule.{goes, ends, insertStep, rule, start}
-use Rattle.rule.specs.Events.{busy, Run, worker, ordered}
+use Rattle.activities.specs.Activities.{busy}
+use Rattle.rule.specs.Events.{Run, worker, ordered}
 use Rattle.phases.proofs.Crew.{opening-sum, moved-sum}
 use Rattle.phases.proofs.Steps.{cellOf, moved}
 use Rattle.insert.proofs.Cases.{reading-by, replacing-by}

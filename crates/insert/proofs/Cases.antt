@@ -4,7 +4,7 @@ use Prim.Native.Nat.{ℕ, _<_}
 use borrow.Author.Tests.{eq-eqb, ne-eqb}
 use Rattle.ring.specs.Ring.{next}
 use Rattle.ring.proofs.Split.{by-eq}
-use Rattle.state.specs.declared.Activity.the-variants.{Reading, Replacing}
+use Rattle.activities.specs.declared.Activity.the-variants.{Reading, Replacing}
 use Rattle.rule.specs.declared.Answer.the-variants.{Finished}
 use Rattle.rule.specs.declared.Outcome.{Outcome}
 use Rattle.rule.specs.Rule.{goes, ends, insertStep, rule}

@@ -9,9 +9,10 @@ use Rattle.layout.specs.Layout.{In}
 use Rattle.layout.specs.Sound.{Holds, Paths}
 use Rattle.layout.proofs.Canonical.{room}
 use Rattle.layout.proofs.Path.{On}
-use Rattle.state.specs.declared.Activity.{Activity}
-use Rattle.state.specs.declared.Activity.the-variants.{Idle, Reading, Replacing, WalkingBack, SeekingForward, SeekingBack}
-use Rattle.rule.specs.Events.{busy, Run, worker}
+use Rattle.activities.specs.declared.Activity.{Activity}
+use Rattle.activities.specs.declared.Activity.the-variants.{Idle, Reading, Replacing, WalkingBack, SeekingForward, SeekingBack}
+use Rattle.activities.specs.Activities.{busy}
+use Rattle.rule.specs.Events.{Run, worker}
 use Rattle.phases.specs.Promise.{Carried}
 
 -- how many workers are busy

@@ -14,14 +14,15 @@ use Rattle.layout.specs.Layout.{In}
 use Rattle.layout.specs.Sound.{look, Holds, Paths}
 use Rattle.layout.proofs.Canonical.{room, gap}
 use Rattle.layout.proofs.Path.{Grows, On, set-grows, replace-paths, replaced, on-home, on-grows, on-next, passed}
-use Rattle.state.specs.declared.Activity.{Activity}
-use Rattle.state.specs.declared.Activity.the-variants.{Idle, Reading, Replacing, WalkingBack, SeekingForward, SeekingBack}
+use Rattle.activities.specs.declared.Activity.{Activity}
+use Rattle.activities.specs.declared.Activity.the-variants.{Idle, Reading, Replacing, WalkingBack, SeekingForward, SeekingBack}
 use Rattle.rule.specs.declared.Answer.{Answer}
 use Rattle.rule.specs.declared.Answer.the-variants.{WentOn, Finished}
 use Rattle.rule.specs.declared.Answer.the-variants as answer
 use Rattle.rule.specs.declared.Outcome.{Outcome}
 use Rattle.rule.specs.Rule.{goes, ends, insertStep, rule, start}
-use Rattle.rule.specs.Events.{busy, keyOf, Run, Event, worker, ordered, event}
+use Rattle.activities.specs.Activities.{busy, keyOf}
+use Rattle.rule.specs.Events.{Run, Event, worker, ordered, event}
 use Rattle.phases.specs.Promise.{Carried}
 use Rattle.phases.proofs.Crew.{set-all, moved-sum}
 use Rattle.phases.proofs.Events.{event-by}

@@ -5,7 +5,6 @@ use mathlib.Core.List.{List, _++_}
 use Prim.Native.Nat.{ℕ, _+_, _-_, _*_, _≤_, _<_}
 use native.Mathlib.Nat.{mul-add, mul-le-mul-left}
 use native.Mathlib.Omega.{arith}
-use lib.Dec.{T}
 use lib.ListN.{length, getD, length-replicate}
 use Rattle.ring.proofs.Counting.{tally-at}
 use Rattle.layout.specs.Layout.{In, layout}
@@ -13,27 +12,19 @@ use Rattle.layout.specs.Sound.{Holds, vacant, Sound}
 use Rattle.layout.proofs.Canonical.{room, gap, keys-layout}
 use Rattle.layout.proofs.Sets.{held-in, in-holds, in-append}
 use Rattle.layout.proofs.Sound.{paths-ordered, paths-sound, sound-paths}
-use Rattle.state.specs.declared.Activity.{Activity}
-use Rattle.state.specs.declared.Activity.the-variants.{Idle, Reading, Replacing, WalkingBack, SeekingForward, SeekingBack}
-use Rattle.rule.specs.WellFormed.{activityOk}
-use Rattle.rule.specs.Events.{busy, keyOf, Run, Event, worker, AllIdle, run, opened, after}
+use Rattle.activities.specs.declared.Activity.the-variants.{Idle}
+use Rattle.activities.specs.Activities.{busy, keyOf}
+use Rattle.rule.specs.Events.{Run, Event, AllIdle, run, opened, after}
 use Rattle.phases.specs.Promise.{mostRest, Always, Carried, Inserts, stepsOf}
-use Rattle.phases.proofs.Crew.{crew-idle, opening-sum, keyed, inside}
+use Rattle.phases.proofs.Crew.{crew-idle, opening-sum}
 use Rattle.phases.proofs.Events.{run-keeps, run-paid}
+use Rattle.phases.proofs.Formed.{formed}
 use Rattle.phases.proofs.Formula.{under}
 use Rattle.phases.proofs.Rounds.{steps-ordered}
 use Rattle.phases.proofs.Vacant.{vacant-room}
 use Rattle.insert.proofs.Bound.{potential, opening-potential, potential-most, order-pays, step-pays}
-use Rattle.insert.proofs.Invariant.{Shape, Fair}
+use Rattle.insert.proofs.Invariant.{Fair}
 use Rattle.insert.proofs.Step.{order-fair, step-keeps, event-keeps}
-
-formed : (n : ℕ) (home : ℕ → ℕ) (t : List ℕ) (a : Activity) → Shape n home t a → T (activityOk 1 n a)
-formed n home t Idle sh = tt
-formed n home t (Reading v i) o = keyed n v i (o .key) (o .inside)
-formed n home t (Replacing v i j x) (o, jn, l) = inside n j _ jn (keyed n v i (o .key) (o .inside))
-formed n home t (WalkingBack v k) sh = absurd sh
-formed n home t (SeekingForward v k j) sh = absurd sh
-formed n home t (SeekingBack v k j x p) sh = absurd sh
 
 -- the formula covers a step more than an operation takes
 few : (n W : ℕ) → 2 * (W * (n - 1)) + 3 ≤ W * (5 * n + 2) + 1 + (5 * n + 2)
@@ -117,7 +108,7 @@ module _ (n W : ℕ) (home : ℕ → ℕ) (hb : (x : ℕ) → home x < n) (t : L
         record {
           sized = fair .sized;
           crew = fair .crew;
-          formed = λ w. formed n home (end .table) (worker end w) (fair .shape w);
+          formed = formed 1 n home hb W t es;
           bounded = omega (arith, steps-bounded, under n W (length (end .ordered)) (2 * (W * (n - 1)) + 2) (omega (arith, few n W)));
         }
 

@@ -4,7 +4,7 @@ ghost use Prim.Native.Nat.{_+_, _≤_, _<_};
 ghost use lib.Count.{ones};
 ghost use lib.ListN.{length};
 ghost use lib.Seq.{sets};
-ghost use Rattle.listing.specs.Words.{taken, occupied, keysOf, filled, groups, group, wordOf, countOf, listedIn};
+ghost use Rattle.words.specs.Words.{taken, occupied, keysOf, filled, groups, group, wordOf, countOf, listedIn};
 
 // 1 if the cell holds a key, else 0.
 fn taken_bit(cell: u32) -> u64

@@ -1,20 +1,15 @@
--- The workers of a phase: all idle, after one has moved, summed up, and well-formed.
+-- The workers of a phase: all idle, after one has moved, and summed up.
 use mathlib.Core.Path.{_≡_, ap, _∙_}
-use mathlib.Core.Logic.{_≢_}
-use mathlib.Core.Bool.{Bool, false, cond}
 use mathlib.Core.List.{List}
 use Prim.Native.Nat.{ℕ, _+_, _<_}
 use native.Mathlib.Omega.{arith}
-use lib.Dec.{T, ltb, lt→ltb}
 use lib.ListN.{length, getD, set, replicate, length-replicate, getD-replicate, List·getD-eq-default}
 use lib.Seq.{getD-set-same, getD-set-other}
-use borrow.Author.Tests.{lt-ltb, ne-eqb}
 use Rattle.ring.specs.Counting.{over}
 use Rattle.ring.proofs.Counting.{tally-none, over-set}
 use Rattle.ring.proofs.Split.{by-lt, by-eq}
-use Rattle.state.specs.declared.Activity.{Activity}
-use Rattle.state.specs.declared.Activity.the-variants.{Idle}
-use Rattle.rule.specs.WellFormed.{keyedAt}
+use Rattle.activities.specs.declared.Activity.{Activity}
+use Rattle.activities.specs.declared.Activity.the-variants.{Idle}
 
 -- a list of n equal elements
 pub replicate-at {ℓ} : {A : Type ℓ} (a : A) (n i : ℕ) → getD (replicate n a) i a ≡ a
@@ -36,10 +31,3 @@ module _ (g : Activity → ℕ) (W : ℕ) where
   pub moved-sum : (ws : List Activity) (w : ℕ) (b : Activity) → length ws ≡ W → w < length ws
       → over (λ _ a. g a) Idle W (set ws w b) + g (getD ws w Idle) ≡ over (λ _ a. g a) Idle W ws + g b
   moved-sum ws w b crew wl = over-set (λ _ a. g a) Idle W ws w b (omega arith) wl
-
--- ---- well-formed activities
-pub keyed : (n v c : ℕ) → v ≢ 0 → c < n → T (keyedAt n v c)
-keyed n v c nz cn = rw (ne-eqb v 0 nz) (lt→ltb c n cn)
-
-pub inside : (n j : ℕ) (b : Bool) → j < n → T b → T (cond (ltb j n) b false)
-inside n j b jn h = rw (lt-ltb j n jn) h

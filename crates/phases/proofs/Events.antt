@@ -1,5 +1,5 @@
 -- Lists of events in a phase of any kind: an event by cases, what every event keeps, and how a potential bounds the counted steps.
-use mathlib.Core.Path.{_≡_, refl}
+use mathlib.Core.Path.{_≡_}
 use mathlib.Core.Bool.{cond}
 use mathlib.Core.List.{List, [], _∷_}
 use Prim.Native.Nat.{ℕ, _+_, _*_, _≤_, _<_}
@@ -7,10 +7,11 @@ use native.Mathlib.Omega.{arith}
 use lib.ListN.{length}
 use borrow.Author.Tests.{lt-ltb, le-ltb, le-leb, lt-leb, eq-eqb, ne-eqb}
 use Rattle.ring.proofs.Split.{by-lt, by-eq}
-use Rattle.state.specs.declared.Activity.{Activity}
-use Rattle.state.specs.declared.Activity.the-variants.{Idle, Reading, Replacing, WalkingBack, SeekingForward, SeekingBack}
-use Rattle.rule.proofs.Idle.{rests}
-use Rattle.rule.specs.Events.{busy, Run, Event, order, step, worker, cost, ordered, accepts, event, run}
+use Rattle.activities.specs.declared.Activity.{Activity}
+use Rattle.activities.specs.declared.Activity.the-variants.{Idle}
+use Rattle.activities.proofs.Activities.{rests}
+use Rattle.activities.specs.Activities.{busy}
+use Rattle.rule.specs.Events.{Run, Event, order, step, worker, cost, ordered, accepts, event, run}
 use Rattle.phases.proofs.Steps.{moved, stepped-moved}
 
 module _ (k n : ℕ) (home : ℕ → ℕ) where

@@ -3,14 +3,14 @@ use mathlib.Core.Path.{_≡_, refl}
 use Prim.Native.Nat.{ℕ, _+_}
 use lib.Dec.{ltb, eqb}
 use Rattle.ring.specs.Ring.{prev}
-use Rattle.state.specs.declared.Activity.{Activity}
-use Rattle.state.specs.declared.Activity.the-variants.{Idle, Reading, Replacing, WalkingBack, SeekingForward, SeekingBack}
+use Rattle.activities.specs.declared.Activity.{Activity}
+use Rattle.activities.specs.declared.Activity.the-variants.{Idle, Reading, Replacing, WalkingBack, SeekingForward, SeekingBack}
 use Rattle.rule.specs.declared.Answer.{Answer}
 use Rattle.rule.specs.declared.Answer.the-variants.{WentOn, Finished, Yes, No}
 use Rattle.rule.specs.declared.Answer.the-variants as answer
 use Rattle.rule.specs.declared.Outcome.{Outcome}
 use Rattle.rule.specs.Rule.{fits, narrow, insertStep, findStep, deleteStep, rule}
-use Rattle.rule.specs.Events.{busy}
+use Rattle.activities.specs.Activities.{busy}
 use Rattle.phases.proofs.Steps.{either, by-kind}
 
 -- 1 if the answer says that the operation is finished, else 0

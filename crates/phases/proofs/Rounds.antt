@@ -11,11 +11,12 @@ use borrow.Author.Tests.{lt-ltb}
 use Rattle.ring.specs.Counting.{tally, over}
 use Rattle.ring.proofs.Counting.{tally-at}
 use Rattle.ring.proofs.Split.{by-lt}
-use Rattle.state.specs.declared.Activity.the-variants.{Idle}
-use Rattle.rule.specs.Events.{busy, Run, Event, step, worker, AllIdle, ordered, stepped, event, run}
+use Rattle.activities.specs.declared.Activity.the-variants.{Idle}
+use Rattle.activities.specs.Activities.{busy}
+use Rattle.rule.specs.Events.{Run, Event, step, worker, AllIdle, ordered, stepped, event, run}
 use Rattle.rule.specs.Schedules.{round, rounds}
 use Rattle.phases.specs.Promise.{stepsOf}
-use Rattle.rule.proofs.Idle.{rests}
+use Rattle.activities.proofs.Activities.{rests}
 use Rattle.phases.proofs.Events.{step-by, event-by, run-keeps}
 use Rattle.phases.proofs.Steps.{either, moved, stepped-counted}
 

@@ -10,13 +10,14 @@ use lib.ListN.{length, getD, set, length-set}
 use lib.Seq.{getD-set-same, getD-set-other, set-getD}
 use borrow.Author.Tests.{lt-ltb, le-ltb, eq-eqb, ne-eqb}
 use Rattle.ring.proofs.Split.{by-tri}
-use Rattle.state.specs.declared.Activity.{Activity}
-use Rattle.state.specs.declared.Activity.the-variants.{Idle, Reading, Replacing, WalkingBack, SeekingForward, SeekingBack}
+use Rattle.activities.specs.declared.Activity.{Activity}
+use Rattle.activities.specs.declared.Activity.the-variants.{Idle, Reading, Replacing, WalkingBack, SeekingForward, SeekingBack}
 use Rattle.rule.specs.declared.Outcome.{Outcome}
 use Rattle.rule.specs.declared.Place.{Place}
 use Rattle.rule.specs.declared.Place.the-variants.{Nowhere, At}
 use Rattle.rule.specs.Rule.{touched, unmoved, insertStep, findStep, deleteStep, rule}
-use Rattle.rule.specs.Events.{busy, keyOf, Run, worker, tells, steppedAt, stepped}
+use Rattle.activities.specs.Activities.{busy, keyOf}
+use Rattle.rule.specs.Events.{Run, worker, tells, steppedAt, stepped}
 use Rattle.phases.specs.Promise.{AlikePromise, OthersKept, OthersPromise}
 
 -- what holds of both outcomes of a test

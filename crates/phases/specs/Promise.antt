@@ -9,13 +9,12 @@ use lib.ListN.{length, getD}
 use Rattle.ring.specs.Counting.{bit, over, count}
 use Rattle.layout.specs.Layout.{In, without, layout}
 use Rattle.layout.specs.Sound.{Holds, vacant, Ordered, Sound}
-use Rattle.state.specs.declared.Activity.{Activity}
-use Rattle.state.specs.declared.Activity.the-variants.{Idle}
+use Rattle.activities.specs.declared.Activity.the-variants.{Idle}
 use Rattle.rule.specs.declared.Answer.{Answer}
 use Rattle.rule.specs.declared.Place.the-variants.{At}
 use Rattle.rule.specs.Rule.{touched, rule}
-use Rattle.rule.specs.WellFormed.{activityOk}
-use Rattle.rule.specs.Events.{keyOf, Said, Run, Event, step, worker, AllIdle, stepped, run, after}
+use Rattle.activities.specs.Activities.{activityOk, keyOf}
+use Rattle.rule.specs.Events.{Said, Run, Event, step, worker, AllIdle, stepped, run, after}
 use Rattle.rule.specs.Schedules.{rounds}
 
 -- ---- the bound: n cells, W workers, K accepted operations

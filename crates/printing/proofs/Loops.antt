@@ -1,35 +1,26 @@
 -- What the loops over the workers and over the cells have printed so far.
-use mathlib.Core.Path.{_≡_, refl, sym, ap, _∙_}
+use mathlib.Core.Path.{_≡_, refl, sym, _∙_}
 use mathlib.Core.Logic.{_≢_}
-use mathlib.Core.Bool.{Bool, true, false, cond}
 use mathlib.Core.List.{List, [], _∷_, _++_, append-nil, append-assoc}
 use Prim.Native.Nat.{ℕ, _+_, _*_, _^_, _≤_, _<_}
 use native.Mathlib.Numerals.{add-one}
 use native.Mathlib.Omega.{arith}
-use lib.Dec.{eqb}
 use lib.ListN.{length, take, getD}
 use lib.Seq.{take-suc, take-all}
 use borrow.Author.Tests.{ne-eqb}
 use Rattle.ring.proofs.Split.{by-eq}
-use Rattle.lines.specs.Digits.{digitsOf}
-use Rattle.listing.specs.Words.{keysOf}
-use Rattle.rounds.specs.declared.Finish.{Finish}
+use Rattle.text.specs.Digits.{digitsOf}
+use Rattle.words.specs.Words.{keysOf}
+use Rattle.words.proofs.Words.{keys-append}
+use Rattle.dealing.specs.declared.Finish.{Finish}
+use Rattle.printing.specs.Widths.{wordWidth, finishesWidth, keyWidth}
 use Rattle.printing.specs.Fields.{Printed, field, finishWord, finishFields, numberFields}
 use Rattle.printing.proofs.Printing.{printed-on, as-long, finish-short, ten-digits}
 
 -- ---- the last of a list
-finish-last : (fs : List Finish) (f : Finish) → finishFields (fs ++ f ∷ []) ≡ finishFields fs ++ field (finishWord (f .answer))
-finish-last [] f = append-nil (field (finishWord (f .answer)))
-finish-last (e ∷ fs) f = rw (finish-last fs f) (sym (append-assoc (field (finishWord (e .answer))) (finishFields fs) (field (finishWord (f .answer)))))
-
-keys-append : (xs ys : List ℕ) → keysOf (xs ++ ys) ≡ keysOf xs ++ keysOf ys
-keys-append [] ys = refl
-keys-append (x ∷ xs) ys = go (eqb x 0) (keys-append xs ys)
-  where
-    go : (b : Bool) → keysOf (xs ++ ys) ≡ keysOf xs ++ keysOf ys
-        → cond b (keysOf (xs ++ ys)) (x ∷ keysOf (xs ++ ys)) ≡ cond b (keysOf xs) (x ∷ keysOf xs) ++ keysOf ys
-    go true e = e
-    go false e = ap (_∷_ x) e
+finish-last : (fs : List Finish) (f : Finish) → finishFields (fs ++ f ∷ []) ≡ finishFields fs ++ field (finishWord (f .ended))
+finish-last [] f = append-nil (field (finishWord (f .ended)))
+finish-last (e ∷ fs) f = rw (finish-last fs f) (sym (append-assoc (field (finishWord (e .ended))) (finishFields fs) (field (finishWord (f .ended)))))
 
 numbers-append : (xs ys : List ℕ) → numberFields (xs ++ ys) ≡ numberFields xs ++ numberFields ys
 numbers-append [] ys = refl
@@ -39,20 +30,20 @@ numbers-append (x ∷ xs) ys = rw (numbers-append xs ys) (sym (append-assoc (fie
 pub record Finishing (fs : List Finish) (count : ℕ) (out₀ : List ℕ) (at : ℕ) (out : List ℕ) (place w : ℕ) : Type 0 where
   pub printed : Printed (finishFields (take w fs)) out₀ at out place
   pub within : w ≤ count
-  pub short : place ≤ at + 5 * w
+  pub short : place ≤ at + wordWidth * w
   pub long : length out ≡ length out₀
-  pub room : at + 80 ≤ length out₀
+  pub room : at + finishesWidth ≤ length out₀
 
 module _ {fs : List Finish} {count : ℕ} {out₀ : List ℕ} {at : ℕ} {out : List ℕ} {place w : ℕ} (h : Finishing fs count out₀ at out place w) where
   pub finishing-on : {out′ : List ℕ} {place′ : ℕ} (d : Finish) → w < length fs → w < count
-      → Printed (field (finishWord (getD fs w d .answer))) out place out′ place′ → Finishing fs count out₀ at out′ place′ (w + 1)
+      → Printed (field (finishWord (getD fs w d .ended))) out place out′ place′ → Finishing fs count out₀ at out′ place′ (w + 1)
   finishing-on {out′} {place′} d l m p =
-      let e : finishFields (take (w + 1) fs) ≡ finishFields (take w fs) ++ field (finishWord (getD fs w d .answer)) =
+      let e : finishFields (take (w + 1) fs) ≡ finishFields (take w fs) ++ field (finishWord (getD fs w d .ended)) =
       rw (add-one, take-suc fs w d l) (finish-last (take w fs) (getD fs w d)) in
       record {
         printed = rw e (printed-on (h .printed) p);
         within = omega arith;
-        short = omega (arith, h .short, p .place, finish-short (getD fs w d .answer));
+        short = omega (arith, h .short, p .place, finish-short (getD fs w d .ended));
         long = as-long p ∙ h .long;
         room = h .room;
       }
@@ -70,15 +61,15 @@ one-key x nz = rw (ne-eqb x 0 nz) (append-nil (field (digitsOf x)))
 pub no-key : (x : ℕ) → x ≡ 0 → numberFields (keysOf (x ∷ [])) ≡ []
 no-key x z = rw z
 
-key-short : (x : ℕ) → x < 2 ^ 32 → length (numberFields (keysOf (x ∷ []))) ≤ 11
+key-short : (x : ℕ) → x < 2 ^ 32 → length (numberFields (keysOf (x ∷ []))) ≤ keyWidth
 key-short x fits = by-eq x 0 (λ z. rw (no-key x z) (omega arith)) (λ nz. rw (one-key x nz) (omega (arith, ten-digits x fits)))
 
 pub record Listing (cells out₀ : List ℕ) (at : ℕ) (out : List ℕ) (place i : ℕ) : Type 0 where
   pub printed : Printed (numberFields (keysOf (take i cells))) out₀ at out place
   pub within : i ≤ length cells
-  pub short : place ≤ at + 11 * i
+  pub short : place ≤ at + keyWidth * i
   pub long : length out ≡ length out₀
-  pub room : at + 11 * length cells ≤ length out₀
+  pub room : at + keyWidth * length cells ≤ length out₀
 
 module _ {cells out₀ : List ℕ} {at : ℕ} {out : List ℕ} {place i : ℕ} (h : Listing cells out₀ at out place i) (l : i < length cells) where
   next-cell : take (i + 1) cells ≡ take i cells ++ getD cells i 0 ∷ []

@@ -4,17 +4,18 @@ use mathlib.Core.List.{List, [], _∷_, _++_}
 use Prim.Native.Nat.{ℕ, _+_, _≤_}
 use lib.ListN.{length, take}
 use lib.Seq.{sets}
-use Rattle.lines.specs.Digits.{digitsOf}
-use Rattle.listing.specs.Words.{keysOf}
+use Rattle.text.specs.Digits.{digitsOf}
+use Rattle.words.specs.Words.{keysOf}
 use Rattle.rule.specs.declared.Answer.{Answer}
 use Rattle.rule.specs.declared.Answer.the-variants.{WentOn, Finished, Yes, No, Idle}
 use Rattle.state.specs.Refusals.{numberOf}
 use Rattle.state.specs.declared.Refusal.{Refusal}
 use Rattle.state.specs.declared.Reply.{Reply}
 use Rattle.state.specs.declared.Reply.the-variants as reply
-use Rattle.calls.specs.declared.TurnReply.{TurnReply}
-use Rattle.calls.specs.declared.TurnReply.the-variants as turnReply
-use Rattle.rounds.specs.declared.Finish.{Finish}
+use Rattle.protocol.specs.declared.TurnReply.{TurnReply}
+use Rattle.protocol.specs.declared.TurnReply.the-variants as turnReply
+use Rattle.dealing.specs.declared.Ended.{Ended}
+use Rattle.dealing.specs.declared.Finish.{Finish}
 use Rattle.printing.specs.declared.Told.{Told}
 use Rattle.printing.specs.declared.Told.the-variants as told
 
@@ -55,16 +56,15 @@ turnFields (turnReply.Answered a) = field (answerWord a)
 turnFields (turnReply.Refused r) = refusalFields r
 
 -- of a worker after a run: how its operation ended
-abbrev pub finishWord : Answer → List ℕ
-finishWord WentOn = none
-finishWord Finished = answerWord Finished
-finishWord Yes = answerWord Yes
-finishWord No = answerWord No
-finishWord Idle = answerWord Idle
+abbrev pub finishWord : Ended → List ℕ
+finishWord Ended.Nothing = none
+finishWord Ended.Finished = answerWord Finished
+finishWord Ended.Yes = answerWord Yes
+finishWord Ended.No = answerWord No
 
 abbrev pub finishFields : List Finish → List ℕ
 finishFields [] = []
-finishFields (f ∷ fs) = field (finishWord (f .answer)) ++ finishFields fs
+finishFields (f ∷ fs) = field (finishWord (f .ended)) ++ finishFields fs
 
 abbrev pub numberFields : List ℕ → List ℕ
 numberFields [] = []
@@ -76,7 +76,6 @@ toldFields (told.Replied r) m fs t = replyFields r
 toldFields (told.Turned r) m fs t = turnFields r
 toldFields told.Ran m fs t = finishFields (take m fs)
 toldFields (told.Listed c) m fs t = field (digitsOf c) ++ numberFields (keysOf t)
-toldFields told.Bad m fs t = field bad
 
 -- ---- the bytes are written into a lent list from a place on, and the place behind them is given
 pub record Printed (bytes out : List ℕ) (at : ℕ) (after : List ℕ) (behind : ℕ) : Type 0 where

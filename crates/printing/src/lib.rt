@@ -1,6 +1,7 @@
 // What an output line says behind its number, written into a lent buffer.
-use calls::TurnReply;
-use rounds::Finish;
+use dealing::Ended;
+use dealing::Finish;
+use protocol::TurnReply;
 use rule::Answer;
 use state::Phase;
 use state::Refusal;
@@ -8,52 +9,52 @@ use state::Reply;
 ghost use mathlib.Core.List.{[], _∷_, _++_};
 ghost use Prim.Native.Nat.{_+_, _*_, _≤_};
 ghost use lib.ListN.{length, take};
-ghost use Rattle.lines.specs.Digits.{digitsOf};
-ghost use Rattle.listing.specs.Words.{keysOf};
+ghost use Rattle.text.specs.Digits.{digitsOf};
+ghost use Rattle.words.specs.Words.{keysOf};
+ghost use Rattle.printing.specs.Widths.{wordWidth, replyWidth, finishesWidth, countWidth, keyWidth, toldWidth};
 ghost use Rattle.printing.specs.Fields.{Printed, PrintedWithin, field, answerWord, refusalFields, replyFields, turnFields, finishWord, finishFields, numberFields, toldFields};
 
-// What a line tells: the answer of a call; that workers ran; how many keys are listed; that the line is bad.
+// What a line tells: the answer of a call; that workers ran; how many keys are listed.
 pub enum Told {
     Replied(Reply),
     Turned(TurnReply),
     Ran,
     Listed(usize),
-    Bad,
 }
 
 fn put_refusal(out: &mut [u8], at: usize, why: Refusal) -> usize
-    requires { ⌜ at + 11 ≤ length (now out) ⌝ }
+    requires { ⌜ at + replyWidth ≤ length (now out) ⌝ }
     ensures { λ r. ⌜ Printed (refusalFields why) (now (out .entry)) at (now (out .exit)) r ⌝ }
 {
-    let behind = lines::put_bytes(out, at, b"\trefused\t");
-    lines::put_number(out, behind, why.number() as u64)
+    let behind = text::put_bytes(out, at, b"\trefused\t");
+    text::put_number(out, behind, why.number() as u64)
 }
 
 pub fn put_reply(out: &mut [u8], at: usize, reply: Reply) -> usize
-    requires { ⌜ at + 11 ≤ length (now out) ⌝ }
+    requires { ⌜ at + replyWidth ≤ length (now out) ⌝ }
     ensures { λ r. ⌜ Printed (replyFields reply) (now (out .entry)) at (now (out .exit)) r ⌝ }
 {
     match reply {
-        Reply::Accepted => lines::put_bytes(out, at, b"\tok"),
+        Reply::Accepted => text::put_bytes(out, at, b"\tok"),
         Reply::Refused(why) => put_refusal(out, at, why),
     }
 }
 
 fn put_answer(out: &mut [u8], at: usize, answer: Answer) -> usize
-    requires { ⌜ at + 5 ≤ length (now out) ⌝ }
+    requires { ⌜ at + wordWidth ≤ length (now out) ⌝ }
     ensures { λ r. ⌜ Printed (field (answerWord answer)) (now (out .entry)) at (now (out .exit)) r ⌝ }
 {
     match answer {
-        Answer::WentOn => lines::put_bytes(out, at, b"\ton"),
-        Answer::Finished => lines::put_bytes(out, at, b"\tdone"),
-        Answer::Yes => lines::put_bytes(out, at, b"\tyes"),
-        Answer::No => lines::put_bytes(out, at, b"\tno"),
-        Answer::Idle => lines::put_bytes(out, at, b"\tidle"),
+        Answer::WentOn => text::put_bytes(out, at, b"\ton"),
+        Answer::Finished => text::put_bytes(out, at, b"\tdone"),
+        Answer::Yes => text::put_bytes(out, at, b"\tyes"),
+        Answer::No => text::put_bytes(out, at, b"\tno"),
+        Answer::Idle => text::put_bytes(out, at, b"\tidle"),
     }
 }
 
 pub fn put_turn(out: &mut [u8], at: usize, reply: TurnReply) -> usize
-    requires { ⌜ at + 11 ≤ length (now out) ⌝ }
+    requires { ⌜ at + replyWidth ≤ length (now out) ⌝ }
     ensures { λ r. ⌜ Printed (turnFields reply) (now (out .entry)) at (now (out .exit)) r ⌝ }
 {
     match reply {
@@ -62,38 +63,32 @@ pub fn put_turn(out: &mut [u8], at: usize, reply: TurnReply) -> usize
     }
 }
 
-fn put_finish(out: &mut [u8], at: usize, answer: Answer) -> usize
-    requires { ⌜ at + 5 ≤ length (now out) ⌝ }
-    ensures { λ r. ⌜ Printed (field (finishWord answer)) (now (out .entry)) at (now (out .exit)) r ⌝ }
+fn put_finish(out: &mut [u8], at: usize, ended: Ended) -> usize
+    requires { ⌜ at + wordWidth ≤ length (now out) ⌝ }
+    ensures { λ r. ⌜ Printed (field (finishWord ended)) (now (out .entry)) at (now (out .exit)) r ⌝ }
 {
-    match answer {
-        Answer::WentOn => lines::put_bytes(out, at, b"\t-"),
-        Answer::Finished => put_answer(out, at, Answer::Finished),
-        Answer::Yes => put_answer(out, at, Answer::Yes),
-        Answer::No => put_answer(out, at, Answer::No),
-        Answer::Idle => put_answer(out, at, Answer::Idle),
+    match ended {
+        Ended::Nothing => text::put_bytes(out, at, b"\t-"),
+        Ended::Finished => put_answer(out, at, Answer::Finished),
+        Ended::Yes => put_answer(out, at, Answer::Yes),
+        Ended::No => put_answer(out, at, Answer::No),
     }
 }
 
 // The fields of the first `count` workers.
-fn put_finishes(
-    out: &mut [u8],
-    at: usize,
-    finishes: [Finish; Phase::MOST_WORKERS],
-    count: usize,
-) -> usize
-    requires { ⌜ at + 80 ≤ length (now out) ⌝ }
-    ensures { λ r. ⌜ PrintedWithin 80 (finishFields (take count finishes)) (now (out .entry)) at (now (out .exit)) r ⌝ }
+fn put_finishes(out: &mut [u8], at: usize, finishes: [Finish; Phase::ROOM], count: usize) -> usize
+    requires { ⌜ at + finishesWidth ≤ length (now out) ⌝ }
+    ensures { λ r. ⌜ PrintedWithin finishesWidth (finishFields (take count finishes)) (now (out .entry)) at (now (out .exit)) r ⌝ }
 {
     let mut place = at;
     let mut w: usize = 0;
-    while w < Phase::MOST_WORKERS {
+    while w < Phase::ROOM {
         if count <= w {
             return place;
         }
         let finish = finishes[w];
-        let answer = finish.answer;
-        place = put_finish(out, place, answer);
+        let ended = finish.ended;
+        place = put_finish(out, place, ended);
         w += 1;
     }
     place
@@ -103,13 +98,13 @@ fn put_field(out: &mut [u8], at: usize, number: u64) -> usize
     requires { ⌜ at + length (field (digitsOf number)) ≤ length (now out) ⌝ }
     ensures { λ r. ⌜ Printed (field (digitsOf number)) (now (out .entry)) at (now (out .exit)) r ⌝ }
 {
-    let behind = lines::put_bytes(out, at, b"\t");
-    lines::put_number(out, behind, number)
+    let behind = text::put_bytes(out, at, b"\t");
+    text::put_number(out, behind, number)
 }
 
 // The key of a cell, if it holds one.
 fn put_key(out: &mut [u8], at: usize, key: u32) -> usize
-    requires { ⌜ at + 11 ≤ length (now out) ⌝ }
+    requires { ⌜ at + keyWidth ≤ length (now out) ⌝ }
     ensures { λ r. ⌜ Printed (numberFields (keysOf (key ∷ []))) (now (out .entry)) at (now (out .exit)) r ⌝ }
 {
     if key == 0 {
@@ -120,8 +115,8 @@ fn put_key(out: &mut [u8], at: usize, key: u32) -> usize
 
 // The keys of a table in cell order.
 fn put_keys(out: &mut [u8], at: usize, cells: &[u32]) -> usize
-    requires { ⌜ at + 11 * length (now cells) ≤ length (now out) ⌝ }
-    ensures { λ r. ⌜ PrintedWithin (11 * length (now (cells .entry))) (numberFields (keysOf (now (cells .entry)))) (now (out .entry)) at (now (out .exit)) r ⌝ }
+    requires { ⌜ at + keyWidth * length (now cells) ≤ length (now out) ⌝ }
+    ensures { λ r. ⌜ PrintedWithin (keyWidth * length (now (cells .entry))) (numberFields (keysOf (now (cells .entry)))) (now (out .entry)) at (now (out .exit)) r ⌝ }
 {
     let mut place = at;
     let mut i: usize = 0;
@@ -133,8 +128,9 @@ fn put_keys(out: &mut [u8], at: usize, cells: &[u32]) -> usize
 }
 
 fn put_list(out: &mut [u8], at: usize, count: usize, cells: &[u32]) -> usize
-    requires { ⌜ at + 21 + 11 * length (now cells) ≤ length (now out) ⌝ }
-    ensures { λ r. ⌜ PrintedWithin (21 + 11 * length (now (cells .entry))) (field (digitsOf count) ++ numberFields (keysOf (now (cells .entry)))) (now (out .entry)) at (now (out .exit)) r ⌝ }
+    requires { ⌜ at + countWidth + keyWidth * length (now cells) ≤ length (now out) ⌝ }
+    ensures { λ r. ⌜ PrintedWithin (countWidth + keyWidth * length (now (cells .entry))) (field (digitsOf count) ++ numberFields (keysOf (now (cells .entry))))
+        (now (out .entry)) at (now (out .exit)) r ⌝ }
 {
     let behind = put_field(out, at, count as u64);
     put_keys(out, behind, cells)
@@ -146,17 +142,16 @@ pub fn put_told(
     at: usize,
     told: Told,
     count: usize,
-    finishes: [Finish; Phase::MOST_WORKERS],
+    finishes: [Finish; Phase::ROOM],
     cells: &[u32],
 ) -> usize
-    requires { ⌜ at + (80 + 11 * length (now cells)) ≤ length (now out) ⌝ }
-    ensures { λ r. ⌜ PrintedWithin (80 + 11 * length (now (cells .entry))) (toldFields told count finishes (now (cells .entry))) (now (out .entry)) at (now (out .exit)) r ⌝ }
+    requires { ⌜ at + toldWidth (length (now cells)) ≤ length (now out) ⌝ }
+    ensures { λ r. ⌜ PrintedWithin (toldWidth (length (now (cells .entry)))) (toldFields told count finishes (now (cells .entry))) (now (out .entry)) at (now (out .exit)) r ⌝ }
 {
     match told {
         Told::Replied(reply) => put_reply(out, at, reply),
         Told::Turned(reply) => put_turn(out, at, reply),
         Told::Ran => put_finishes(out, at, finishes, count),
         Told::Listed(keys) => put_list(out, at, keys, cells),
-        Told::Bad => lines::put_bytes(out, at, b"\tbad"),
     }
 }

@@ -8,12 +8,14 @@ use lib.IntN.{ℤ, pos, negsuc}
 use lib.Signed.{ltZ}
 use lib.ListN.{length, take}
 use Rattle.io.specs.Counts.{Counts, clamped}
-use Rattle.lines.proofs.Test.{true-false}
+use Rattle.text.proofs.Test.{true-false}
+use Rattle.lines.specs.Grammar.{keptBytes}
 use Rattle.feed.specs.Feed.{Kept}
 use Rattle.blocks.specs.declared.Carried.{Carried}
 use Rattle.replay.specs.declared.Passed.{Passed}
 use Rattle.blocks.specs.Kept.{keptOf, Held, Fit}
 use Rattle.replay.specs.Read.{Passes, Brings}
+use Rattle.sheet.specs.Replay.{mostSheetCells}
 
 -- ---- what a read brings
 -- what is tested not to be below 0 is not
@@ -45,7 +47,7 @@ pub record Reading (cells block out line : List ℕ) (c : Carried) (left : ℕ) 
   pub held : Held c cells
   pub goes : c .ended ≡ false
   pub few : c .number + left ≤ 18446744073709551615
-  pub cells-long : length cells ≡ 4096
+  pub cells-long : length cells ≡ mostSheetCells
   pub block-long : length block ≡ 65536
-  pub out-long : length out ≡ 65536
-  pub line-long : length line ≡ 28
+  pub out-long : length out ≡ 131072
+  pub line-long : length line ≡ keptBytes

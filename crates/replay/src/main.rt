@@ -1,9 +1,18 @@
 // Replays the shift sheet on standard input, a block of bytes at a time.
 use blocks::Carried;
+use lines::Line;
+use sheet::Replay;
 ghost use Prim.Native.Nat.{_≤_};
 ghost use lib.ListN.{length};
+ghost use Rattle.sheet.specs.Replay.{longestAnswer};
 ghost use Rattle.blocks.specs.Kept.{keptOf, Fit};
 ghost use Rattle.replay.specs.Read.{Passes, Brings};
+
+// How many bytes are read at a time.
+const BLOCK: usize = 65536;
+
+// The room for what is printed at a time: the longest answer and more, so that the answers to many lines are written at once.
+const OUTPUT: usize = 131072;
 
 // A block is done; `written` if all that it prints could be written.
 struct Passed {
@@ -37,7 +46,7 @@ fn block_done(
     cells: &mut [u32],
     out: &mut [u8],
 ) -> Passed
-    requires { ⌜ Fit carried (now line) (now cells) (length (now block)) × (45200 ≤ length (now out)) ⌝ }
+    requires { ⌜ Fit carried (now line) (now cells) (length (now block)) × (longestAnswer ≤ length (now out)) ⌝ }
     ensures { λ r. ⌜ Passes (keptOf carried (now (line .entry)) (now (cells .entry))) (now (block .entry)) (now (line .exit)) (now (cells .exit)) r ⌝ }
 {
     let mut kept = carried;
@@ -76,7 +85,7 @@ fn read_done(
     cells: &mut [u32],
     out: &mut [u8],
 ) -> Brought
-    requires { ⌜ Fit carried (now line) (now cells) (length (now block)) × (45200 ≤ length (now out)) ⌝ }
+    requires { ⌜ Fit carried (now line) (now cells) (length (now block)) × (longestAnswer ≤ length (now out)) ⌝ }
     ensures { λ r. ⌜ Brings (keptOf carried (now (line .entry)) (now (cells .entry))) got (now (block .entry)) (now (line .exit)) (now (cells .exit)) r ⌝ }
 {
     let count = io::count(got, block);
@@ -98,13 +107,13 @@ fn read_done(
 }
 
 fn main() {
-    let mut cells = [0u32; 4096];
-    let mut block = io::large_buffer();
-    let mut out = io::large_buffer();
-    let mut line = [0u8; 28];
+    let mut cells = [0u32; Replay::MOST_CELLS];
+    let mut block = [0u8; BLOCK];
+    let mut out = [0u8; OUTPUT];
+    let mut line = [0u8; Line::KEPT];
     let mut carried = blocks::start();
     let mut left: u64 = 18446744073709551615;
-    while 65536 < left {
+    while (BLOCK as u64) < left {
         let got = libc::read(0, &mut block);
         let brought = read_done(carried, got, &block, &mut line, &mut cells, &mut out);
         let next = brought.carried;

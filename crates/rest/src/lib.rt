@@ -2,20 +2,14 @@
 use state::Phase;
 use state::Refusal;
 use state::Reply;
+use tables::Counted;
 ghost use mathlib.Core.Path.{_≡_};
-ghost use Rattle.layout.specs.Home.{modulo};
-ghost use Rattle.state.specs.Limits.{gateway};
-ghost use Rattle.rest.specs.Calls.{checkCall, countCall, listCall, listAfter, listFront};
-
-// How many keys a table has, or why it is not said.
-pub enum Counted {
-    Keys(usize),
-    Refused(Refusal),
-}
+ghost use Rattle.state.specs.Model.{gateway};
+ghost use Rattle.tables.specs.Calls.{checkCall, countCall, listCall, listAfter, listFront};
 
 // Whether the table is sound.
 pub fn check(cells: &[u32]) -> Reply
-    ensures { λ r. ⌜ r ≡ checkCall gateway modulo (now (cells .entry)) ⌝ }
+    ensures { λ r. ⌜ r ≡ checkCall gateway (now (cells .entry)) ⌝ }
 {
     if !Phase::size_ok(cells.len()) {
         return Reply::Refused(Refusal::Size);
@@ -29,7 +23,7 @@ pub fn check(cells: &[u32]) -> Reply
 
 // How many keys the table has.
 pub fn count(cells: &[u32]) -> Counted
-    ensures { λ r. ⌜ r ≡ countCall gateway modulo (now (cells .entry)) ⌝ }
+    ensures { λ r. ⌜ r ≡ countCall gateway (now (cells .entry)) ⌝ }
 {
     let checked = check(cells);
     match checked {
@@ -40,7 +34,7 @@ pub fn count(cells: &[u32]) -> Counted
 
 // Lists the keys in cell order at the front of `out`.
 pub fn list(cells: &[u32], out: &mut [u32]) -> Counted
-    ensures { λ r. ⌜ (r ≡ listCall gateway modulo (now (cells .entry)) (now (out .entry))) × (now (out .exit) ≡ listAfter gateway modulo (now (cells .entry)) (now (out .entry))) ⌝ }
+    ensures { λ r. ⌜ (r ≡ listCall gateway (now (cells .entry)) (now (out .entry))) × (now (out .exit) ≡ listAfter gateway (now (cells .entry)) (now (out .entry))) ⌝ }
 {
     let checked = check(cells);
     match checked {
@@ -59,7 +53,7 @@ pub fn list(cells: &[u32], out: &mut [u32]) -> Counted
 
 // The same, handing back the filled front part of `out`.
 pub fn list_front<'a>(cells: &[u32], out: &'a mut [u32]) -> &'a mut [u32]
-    ensures { λ r. ⌜ now r ≡ listFront gateway modulo (now (cells .entry)) (now (out .entry)) ⌝ }
+    ensures { λ r. ⌜ now r ≡ listFront gateway (now (cells .entry)) (now (out .entry)) ⌝ }
 {
     let listed = list(cells, out);
     match listed {

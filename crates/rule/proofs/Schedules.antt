@@ -8,13 +8,13 @@ use lib.ListN.{getD}
 use Rattle.ring.specs.Counting.{count}
 use Rattle.ring.specs.Ring.{wrap, dist, prev}
 use Rattle.layout.proofs.Tests.{and-left, and-right}
-use Rattle.state.specs.declared.Activity.{Activity}
-use Rattle.state.specs.declared.Activity.the-variants.{Idle}
-use Rattle.rule.specs.Events.{Said, Run, busy, stepped, ordered, accepts, event, run}
+use Rattle.activities.specs.declared.Activity.{Activity}
+use Rattle.activities.specs.declared.Activity.the-variants.{Idle}
+use Rattle.rule.specs.Events.{Said, Run, stepped, ordered, accepts, event, run}
+use Rattle.activities.specs.Activities.{busy}
 use Rattle.rule.specs.Rule.{insertStep, findStep, fits, narrow, deleteStep, rule}
-use Rattle.rule.specs.Schedules.{Schedule, Closes, round, rounds, steps, sameTable, sameBit, sameAnswers, noneBusy, ends, closesAs, closesRight}
-use Rattle.rule.specs.Schedules.{schedules, AllClose, SchedulesPromise}
-use Rattle.rule.proofs.Idle.{rests}
+use Rattle.rule.specs.Schedules.{Schedule, Closes, round, rounds, steps, sameTable, sameBit, sameAnswers, noneBusy, ends, closesAs, closesRight, schedules, AllClose, SchedulesPromise}
+use Rattle.activities.proofs.Activities.{rests}
 
 -- ---- what a passed test says
 pub same-table : (xs ys : List ℕ) → T (sameTable xs ys) → xs ≡ ys

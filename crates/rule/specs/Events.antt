@@ -5,34 +5,16 @@ use mathlib.Core.List.{List, [], _∷_, _++_}
 use Prim.Native.Nat.{ℕ, _+_, _-_}
 use lib.Dec.{leb, ltb, eqb}
 use lib.ListN.{length, getD, set, replicate}
-use Rattle.state.specs.Open.{allowance}
-use Rattle.state.specs.declared.Activity.{Activity}
-use Rattle.state.specs.declared.Activity.the-variants.{Idle, Reading, Replacing, WalkingBack, SeekingForward, SeekingBack}
+use Rattle.activities.specs.Activities.{busy, keyOf}
+use Rattle.activities.specs.Kinds.{allowance}
+use Rattle.activities.specs.declared.Activity.{Activity}
+use Rattle.activities.specs.declared.Activity.the-variants.{Idle}
 use Rattle.rule.specs.declared.Answer.{Answer}
 use Rattle.rule.specs.declared.Answer.the-variants.{WentOn, Finished, Yes, No}
 use Rattle.rule.specs.declared.Answer.the-variants as answer
 use Rattle.rule.specs.declared.Place.{Place}
 use Rattle.rule.specs.declared.Place.the-variants.{Nowhere, At}
 use Rattle.rule.specs.Rule.{touched, rule, start}
-
--- ---- what is read off an activity
--- 1 if the worker has an unfinished operation, else 0
-abbrev pub busy : Activity → ℕ
-busy Idle = 0
-busy (Reading v i) = 1
-busy (Replacing v k j x) = 1
-busy (WalkingBack v k) = 1
-busy (SeekingForward v k j) = 1
-busy (SeekingBack v k j x p) = 1
-
--- the key that it carries or works for, 0 if idle
-abbrev pub keyOf : Activity → ℕ
-keyOf Idle = 0
-keyOf (Reading v i) = v
-keyOf (Replacing v k j x) = v
-keyOf (WalkingBack v k) = v
-keyOf (SeekingForward v k j) = v
-keyOf (SeekingBack v k j x p) = v
 
 -- ---- the state between two events
 -- a find's answer: its key, and whether it said yes

@@ -5,8 +5,8 @@ use mathlib.Core.Bool.{Bool, true, cond}
 use Prim.Native.Nat.{ℕ}
 use lib.Dec.{ltb, eqb}
 use Rattle.ring.specs.Ring.{dist, next, prev}
-use Rattle.state.specs.declared.Activity.{Activity}
-use Rattle.state.specs.declared.Activity.the-variants.{Idle, Reading, Replacing, WalkingBack, SeekingForward, SeekingBack}
+use Rattle.activities.specs.declared.Activity.{Activity}
+use Rattle.activities.specs.declared.Activity.the-variants.{Idle, Reading, Replacing, WalkingBack, SeekingForward, SeekingBack}
 use Rattle.rule.specs.declared.Answer.{Answer}
 use Rattle.rule.specs.declared.Answer.the-variants.{WentOn, Finished, Yes, No}
 use Rattle.rule.specs.declared.Answer.the-variants as answer

@@ -5,8 +5,9 @@ use mathlib.Core.List.{List, [], _∷_, _++_, map}
 use Prim.Native.Nat.{ℕ, zero, suc}
 use lib.Dec.{eqb}
 use Rattle.layout.specs.Home.{modulo}
-use Rattle.state.specs.declared.Activity.{Activity}
-use Rattle.rule.specs.Events.{Said, Run, Event, order, step, busy, AllIdle, after}
+use Rattle.activities.specs.declared.Activity.{Activity}
+use Rattle.rule.specs.Events.{Said, Run, Event, order, step, AllIdle, after}
+use Rattle.activities.specs.Activities.{busy}
 
 pub record Schedule : Type 0 where
   pub kind : ℕ

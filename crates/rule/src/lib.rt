@@ -1,5 +1,5 @@
 // The worker's rule: the types of a step here, the rule and lists of steps as definitions in specs/, examples in proofs/.
-use state::Activity;
+use activities::Activity;
 
 // What a step answers.
 pub enum Answer {

@@ -1,17 +1,16 @@
 // The service call of document 01: a turn on a lent phase. It is the plain call and nothing more.
 ghost use mathlib.Core.Path.{_≡_};
-ghost use Rattle.layout.specs.Home.{modulo};
-ghost use Rattle.state.specs.Limits.{gateway};
-ghost use Rattle.calls.specs.Calls.{turnCall, turnTable};
-use calls::TurnReply;
+ghost use Rattle.state.specs.Model.{gateway};
+ghost use Rattle.protocol.specs.Calls.{turnCall, turnTable};
 use calls::turn;
+use protocol::TurnReply;
 use state::Phase;
 
 // The reply, the phase and the table are those of the plain turn.
 pub fn serve(phase: &mut Phase, cells: &mut [u32], worker: usize) -> TurnReply
-    ensures { λ r. ⌜ (r ≡ turnCall gateway (now (phase .entry)) (now (cells .entry)) worker modulo .reply)
-        × ((now (phase .exit) ≡ turnCall gateway (now (phase .entry)) (now (cells .entry)) worker modulo .phase)
-        × (now (cells .exit) ≡ turnTable gateway (now (phase .entry)) (now (cells .entry)) worker modulo)) ⌝ }
+    ensures { λ r. ⌜ (r ≡ turnCall gateway (now (phase .entry)) (now (cells .entry)) worker .reply)
+        × ((now (phase .exit) ≡ turnCall gateway (now (phase .entry)) (now (cells .entry)) worker .phase)
+        × (now (cells .exit) ≡ turnTable gateway (now (phase .entry)) (now (cells .entry)) worker)) ⌝ }
 {
     let turned = turn(*phase, cells, worker);
     *phase = turned.phase;

@@ -6,15 +6,17 @@ use lib.ListN.{length, take, drop}
 use lib.Seq.{sets}
 use mathlib.Core.Bool.{false}
 use Rattle.state.specs.declared.Phase.{Phase}
+use Rattle.lines.specs.declared.Command.{Command}
 use Rattle.lines.specs.declared.Line.{Line}
-use Rattle.rounds.specs.Reached.{Reached}
+use Rattle.state.specs.Model.{gateway}
+use Rattle.dealing.specs.Reached.{Reached}
 use Rattle.printing.specs.declared.Told.{Told}
-use Rattle.sheet.specs.declared.Task.{Task}
-use Rattle.sheet.specs.declared.Task.the-variants.{Cells, Open, Order, Turn, Run, Close, List as lists, Refuse}
+use Rattle.fitting.specs.declared.Task.{Task}
+use Rattle.fitting.specs.declared.Task.the-variants.{Perform}
 use Rattle.sheet.specs.declared.Answered.{Answered}
 use Rattle.sheet.specs.declared.Done.{Done}
 use Rattle.sheet.specs.declared.Replay.{Replay}
-use Rattle.sheet.specs.Replay.{State, Step, noFinishes, Answer, answerOf, rendered, mostSheetCells}
+use Rattle.sheet.specs.Replay.{State, Step, noFinishes, Answer, answerOf, rendered, mostSheetCells, longestAnswer}
 use Rattle.sheet.specs.Valid.{Valid}
 
 abbrev pub stateOf : Replay → List ℕ → State
@@ -41,14 +43,7 @@ pub record Roomy (r : Replay) (cells : List ℕ) : Type 0 where
 
 -- what the line `run` must find: an open phase that calls have led to
 abbrev pub Runs : State → Task → Type 0
-Runs s (Cells n) = Unit {0}
-Runs s (Open k m) = Unit {0}
-Runs s (Order w v) = Unit {0}
-Runs s (Turn w) = Unit {0}
-Runs s Run = Reached (s .phase) (s .table) × (s .phase .shut ≡ false)
-Runs s Close = Unit {0}
-Runs s lists = Unit {0}
-Runs s Refuse = Unit {0}
+Runs s t = t ≡ Perform Command.Run → Reached gateway (s .phase) (s .table) × (s .phase .shut ≡ false)
 
 -- what a task leaves
 pub record Does (d : Step) (cells cells′ : List ℕ) (r : Done) : Type 0 where
@@ -70,6 +65,6 @@ pub record Answers (s : State) (n : ℕ) (l : Line) (cells out : List ℕ) (at :
   pub store : cells′ ≡ over (answerOf s l .state .table) cells
   pub output : out′ ≡ sets out at (rendered n (answerOf s l))
   -- it takes no more bytes than the longest line
-  pub short : r .at ≤ at + 45200
+  pub short : r .at ≤ at + longestAnswer
   -- and the next line finds what it must
   pub ready : Ready (r .replay) cells′

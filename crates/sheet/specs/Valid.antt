@@ -3,10 +3,11 @@ use mathlib.Core.Path.{_≡_}
 use mathlib.Core.Bool.{false}
 use Prim.Native.Nat.{_≤_}
 use lib.ListN.{length}
-use Rattle.rounds.specs.Reached.{Reached}
+use Rattle.state.specs.Model.{gateway}
+use Rattle.dealing.specs.Reached.{Reached}
 use Rattle.sheet.specs.Replay.{State, mostSheetCells}
 
 -- the table is short enough for a sheet, and calls have led from an accepted opening to an open phase and its table
 pub record Valid (s : State) : Type 0 where
   pub few : length (s .table) ≤ mostSheetCells
-  pub reached : s .phase .shut ≡ false → Reached (s .phase) (s .table)
+  pub reached : s .phase .shut ≡ false → Reached gateway (s .phase) (s .table)

@@ -1,25 +1,27 @@
 // The replay of a shift sheet, line by line: what a line does and what it prints.
+use activities::Worker;
+use dealing::Finish;
+use fitting::Reading;
+use fitting::Task;
+use lines::Command;
 use lines::Line;
 use printing::Told;
-use rest::Counted;
-use rounds::Finish;
 use state::Phase;
 use state::Refusal;
 use state::Reply;
-use state::Worker;
+use tables::Counted;
 ghost use mathlib.Core.Path.{_≡_};
 ghost use mathlib.Core.Bool.{true, false};
 ghost use Prim.Native.Nat.{_+_, _≤_, _<_};
 ghost use lib.ListN.{length, take, replicate};
-ghost use Rattle.layout.specs.Home.{modulo};
-ghost use Rattle.rule.specs.WellFormed.{activityOk};
-ghost use Rattle.state.specs.Limits.{gateway};
+ghost use Rattle.activities.specs.Activities.{activityOk};
+ghost use Rattle.state.specs.Model.{gateway};
 ghost use Rattle.state.specs.Open.{openCall};
-ghost use Rattle.calls.specs.Calls.{closeCall, orderCall};
-ghost use Rattle.sheet.specs.Replay.{blank, inShut, inOpen, readingIn, cellsTask, turnTask, runTask, listTask, calls, performed};
+ghost use Rattle.protocol.specs.Calls.{closeCall, orderCall};
+ghost use Rattle.sheet.specs.Replay.{longestAnswer, blank, cellsTask, turnTask, runTask, listTask, calls, commanded, performed};
 ghost use Rattle.sheet.specs.Store.{stateOf, replayOf, doneOf, toldOf, Roomy, Runs, Does, Ready, Answers};
-ghost use Rattle.sheet.specs.One.{aimOf, OrderAnswers, TurnAnswers};
-ghost use Rattle.rounds.specs.Reached.{Reached};
+ghost use Rattle.sheet.specs.One.{OrderAnswers, TurnAnswers};
+ghost use Rattle.dealing.specs.Reached.{Reached};
 
 // What is kept from line to line, beside the lent cells: the phase, and how many of the cells are the table.
 pub struct Replay {
@@ -27,28 +29,19 @@ pub struct Replay {
     pub length: usize,
 }
 
-// What a line asks for; `Refuse` where the phase is shut.
-pub enum Task {
-    Cells(u32),
-    Open(u32, u32),
-    Order(u32, u32),
-    Turn(u32),
-    Run,
-    Close,
-    List,
-    Refuse,
-}
+impl Replay {
+    // The longest table of a sheet.
+    pub const MOST_CELLS: usize = 4096;
 
-pub enum Reading {
-    Todo(Task),
-    Bad,
+    // No output line is longer.
+    pub const LONGEST_ANSWER: usize = 45157;
 }
 
 // The replay after a task, with what it tells and how the operations ended in a run.
 pub struct Done {
     pub replay: Replay,
     pub told: Told,
-    pub finishes: [Finish; Phase::MOST_WORKERS],
+    pub finishes: [Finish; Phase::ROOM],
 }
 
 // The replay after a line, the place behind what the line printed, and whether the replay ends there.
@@ -56,13 +49,6 @@ pub struct Answered {
     pub replay: Replay,
     pub at: usize,
     pub ended: bool,
-}
-
-// A line to one worker of an open phase, an order or a turn; or any other line.
-pub enum Aim {
-    Order(u32, u32),
-    Turn(u32),
-    Other,
 }
 
 // What an order to one worker leaves: the worker, the insert operations left, and the place behind what the line printed.
@@ -88,50 +74,11 @@ pub fn start() -> Replay
     Replay { phase, length: 0 }
 }
 
-// ---- what a line asks for
-fn in_shut(line: Line) -> Reading
-    ensures { λ r. ⌜ r ≡ inShut line ⌝ }
-{
-    match line {
-        Line::Cells(length) => Reading::Todo(Task::Cells(length)),
-        Line::Open(kind, count) => Reading::Todo(Task::Open(kind, count)),
-        Line::Order(_, _) => Reading::Todo(Task::Refuse),
-        Line::Turn(worker) => Reading::Todo(Task::Turn(worker)),
-        Line::Run => Reading::Todo(Task::Refuse),
-        Line::Close => Reading::Todo(Task::Close),
-        Line::List => Reading::Todo(Task::List),
-        Line::BadOrder => Reading::Todo(Task::Refuse),
-        Line::Bad => Reading::Bad,
-    }
-}
-
-fn in_open(line: Line) -> Reading
-    ensures { λ r. ⌜ r ≡ inOpen line ⌝ }
-{
-    match line {
-        Line::Cells(_) => Reading::Bad,
-        Line::Open(_, _) => Reading::Bad,
-        Line::Order(worker, key) => Reading::Todo(Task::Order(worker, key)),
-        Line::Turn(worker) => Reading::Todo(Task::Turn(worker)),
-        Line::Run => Reading::Todo(Task::Run),
-        Line::Close => Reading::Todo(Task::Close),
-        Line::List => Reading::Todo(Task::List),
-        Line::BadOrder => Reading::Bad,
-        Line::Bad => Reading::Bad,
-    }
-}
-
-fn reading_in(shut: bool, line: Line) -> Reading
-    ensures { λ r. ⌜ r ≡ readingIn shut line ⌝ }
-{
-    if shut { in_shut(line) } else { in_open(line) }
-}
-
 // ---- the tasks
 fn tell(phase: Phase, length: usize, told: Told) -> Done
     ensures { λ r. ⌜ r ≡ toldOf phase length told ⌝ }
 {
-    let finishes = rounds::no_finishes();
+    let finishes = dealing::no_finishes();
     Done {
         replay: Replay { phase, length },
         told,
@@ -153,28 +100,28 @@ fn set_cells(replay: Replay, length: u32, cells: &mut [u32]) -> Done
     requires { ⌜ Roomy replay (now cells) ⌝ }
     ensures { λ r. ⌜ Does (cellsTask (stateOf replay (now (cells .entry))) length) (now (cells .entry)) (now (cells .exit)) r ⌝ }
 {
-    if length < 2 {
-        return tell(
-            replay.phase,
-            replay.length,
-            Told::Replied(Reply::Refused(Refusal::Size)),
-        );
-    }
-    if 4096 < length {
-        return tell(
-            replay.phase,
-            replay.length,
-            Told::Replied(Reply::Refused(Refusal::Size)),
-        );
-    }
     let n = length as usize;
+    if n < Phase::FEWEST_CELLS {
+        return tell(
+            replay.phase,
+            replay.length,
+            Told::Replied(Reply::Refused(Refusal::Size)),
+        );
+    }
+    if Replay::MOST_CELLS < n {
+        return tell(
+            replay.phase,
+            replay.length,
+            Told::Replied(Reply::Refused(Refusal::Size)),
+        );
+    }
     clear(&mut cells[..n]);
     tell(replay.phase, n, Told::Replied(Reply::Accepted))
 }
 
 fn open_phase(replay: Replay, kind: u32, count: u32, cells: &[u32]) -> Done
     requires { ⌜ Roomy replay (now cells) ⌝ }
-    ensures { λ r. ⌜ r ≡ doneOf (calls (take (replay .length) (now (cells .entry))) (openCall gateway modulo kind count (take (replay .length) (now (cells .entry))))) ⌝ }
+    ensures { λ r. ⌜ r ≡ doneOf (calls (take (replay .length) (now (cells .entry))) (openCall gateway kind count (take (replay .length) (now (cells .entry))))) ⌝ }
 {
     let length = replay.length;
     let replied = Phase::open(kind as u64, count as u64, &cells[..length]);
@@ -184,7 +131,7 @@ fn open_phase(replay: Replay, kind: u32, count: u32, cells: &[u32]) -> Done
 }
 
 fn give_order(replay: Replay, worker: u32, key: u32) -> Done
-    ensures { λ r. ⌜ r ≡ toldOf (orderCall gateway (replay .phase) modulo worker key .phase) (replay .length) (Told.Replied (orderCall gateway (replay .phase) modulo worker key .reply)) ⌝ }
+    ensures { λ r. ⌜ r ≡ toldOf (orderCall gateway (replay .phase) worker key .phase) (replay .length) (Told.Replied (orderCall gateway (replay .phase) worker key .reply)) ⌝ }
 {
     let phase = replay.phase;
     let replied = calls::order(phase, worker as usize, key);
@@ -206,12 +153,12 @@ fn take_turn(replay: Replay, worker: u32, cells: &mut [u32]) -> Done
 }
 
 fn run_out(replay: Replay, cells: &mut [u32]) -> Done
-    requires { ⌜ Roomy replay (now cells) × (Reached (replay .phase) (take (replay .length) (now cells)) × (replay .phase .shut ≡ false)) ⌝ }
+    requires { ⌜ Roomy replay (now cells) × (Reached gateway (replay .phase) (take (replay .length) (now cells)) × (replay .phase .shut ≡ false)) ⌝ }
     ensures { λ r. ⌜ Does (runTask (stateOf replay (now (cells .entry)))) (now (cells .entry)) (now (cells .exit)) r ⌝ }
 {
     let length = replay.length;
     let phase = replay.phase;
-    let dealt = rounds::run(phase, &mut cells[..length]);
+    let dealt = dealing::run(phase, &mut cells[..length]);
     let next = dealt.phase;
     let finishes = dealt.finishes;
     Done {
@@ -246,18 +193,38 @@ fn list_table(replay: Replay, cells: &[u32]) -> Done
     }
 }
 
-fn perform(replay: Replay, task: Task, cells: &mut [u32]) -> Done
+// Carries a command out.
+fn carry_out(
+    replay: Replay,
+    command: Command,
+    values: [u32; Line::MOST_NUMBERS],
+    cells: &mut [u32],
+) -> Done
+    requires { ⌜ Roomy replay (now cells) × Runs (stateOf replay (now cells)) (Task.Perform command) ⌝ }
+    ensures { λ r. ⌜ Does (commanded (stateOf replay (now (cells .entry))) command values) (now (cells .entry)) (now (cells .exit)) r ⌝ }
+{
+    match command {
+        Command::Cells => set_cells(replay, values[0], cells),
+        Command::Open => open_phase(replay, values[0], values[1], cells),
+        Command::Order => give_order(replay, values[0], values[1]),
+        Command::Turn => take_turn(replay, values[0], cells),
+        Command::Run => run_out(replay, cells),
+        Command::Close => close_phase(replay),
+        Command::List => list_table(replay, cells),
+        Command::Unknown => tell(
+            replay.phase,
+            replay.length,
+            Told::Replied(Reply::Refused(Refusal::Shut)),
+        ),
+    }
+}
+
+fn perform(replay: Replay, task: Task, values: [u32; Line::MOST_NUMBERS], cells: &mut [u32]) -> Done
     requires { ⌜ Roomy replay (now cells) × Runs (stateOf replay (now cells)) task ⌝ }
-    ensures { λ r. ⌜ Does (performed (stateOf replay (now (cells .entry))) task) (now (cells .entry)) (now (cells .exit)) r ⌝ }
+    ensures { λ r. ⌜ Does (performed (stateOf replay (now (cells .entry))) task values) (now (cells .entry)) (now (cells .exit)) r ⌝ }
 {
     match task {
-        Task::Cells(length) => set_cells(replay, length, cells),
-        Task::Open(kind, count) => open_phase(replay, kind, count, cells),
-        Task::Order(worker, key) => give_order(replay, worker, key),
-        Task::Turn(worker) => take_turn(replay, worker, cells),
-        Task::Run => run_out(replay, cells),
-        Task::Close => close_phase(replay),
-        Task::List => list_table(replay, cells),
+        Task::Perform(command) => carry_out(replay, command, values, cells),
         Task::Refuse => tell(
             replay.phase,
             replay.length,
@@ -275,19 +242,21 @@ pub fn answer(
     out: &mut [u8],
     at: usize,
 ) -> Answered
-    requires { ⌜ Ready replay (now cells) × (at + 45200 ≤ length (now out)) ⌝ }
+    requires { ⌜ Ready replay (now cells) × (at + longestAnswer ≤ length (now out)) ⌝ }
     ensures { λ r. ⌜ Answers (stateOf replay (now (cells .entry))) number line (now (cells .entry)) (now (out .entry)) at (now (cells .exit)) (now (out .exit)) r ⌝ }
 {
-    let from = lines::put_number(out, at, number);
-    let Reading::Todo(task) = reading_in(replay.phase.shut, line) else {
-        let end = lines::put_bytes(out, from, b"\tbad\n");
+    let from = text::put_number(out, at, number);
+    let Reading::Todo(task) = fitting::reading_in(replay.phase.kind, replay.phase.shut, line) else {
+        let end = text::put_bytes(out, from, b"\tbad\n");
         return Answered {
             replay,
             at: end,
             ended: true,
         };
     };
-    let done = perform(replay, task, cells);
+    let numbers = line.numbers;
+    let values = numbers.values;
+    let done = perform(replay, task, values, cells);
     let next = done.replay;
     let told = done.told;
     let finishes = done.finishes;
@@ -296,11 +265,11 @@ pub fn answer(
         out,
         from,
         told,
-        next.phase.count as usize,
+        next.phase.crew as usize,
         finishes,
         &cells[..length],
     );
-    let end = lines::put_bytes(out, behind, b"\n");
+    let end = text::put_bytes(out, behind, b"\n");
     Answered {
         replay: next,
         at: end,
@@ -309,35 +278,6 @@ pub fn answer(
 }
 
 // ---- lines to one worker of an open phase, for a loop that keeps the phase in place: only the worker goes by value
-pub fn aim_of(line: Line, shut: bool, count: u32) -> Aim
-    ensures { λ r. ⌜ r ≡ aimOf line shut count ⌝ }
-{
-    if shut {
-        return Aim::Other;
-    }
-    match line {
-        Line::Order(worker, key) => {
-            if worker < count {
-                return Aim::Order(worker, key);
-            }
-            Aim::Other
-        }
-        Line::Turn(worker) => {
-            if worker < count {
-                return Aim::Turn(worker);
-            }
-            Aim::Other
-        }
-        Line::Cells(_) => Aim::Other,
-        Line::Open(_, _) => Aim::Other,
-        Line::Run => Aim::Other,
-        Line::Close => Aim::Other,
-        Line::List => Aim::Other,
-        Line::BadOrder => Aim::Other,
-        Line::Bad => Aim::Other,
-    }
-}
-
 // Answers the line `number`, an order of `key` to this worker, and prints from `at` on.
 pub fn answer_order(
     kind: u32,
@@ -349,15 +289,15 @@ pub fn answer_order(
     out: &mut [u8],
     at: usize,
 ) -> Ordered
-    requires { ⌜ (0 < size) × (at + 45200 ≤ length (now out)) ⌝ }
+    requires { ⌜ (0 < size) × (at + longestAnswer ≤ length (now out)) ⌝ }
     ensures { λ r. ⌜ OrderAnswers kind size left worker key number (now (out .entry)) at (now (out .exit)) r ⌝ }
 {
-    let from = lines::put_number(out, at, number);
+    let from = text::put_number(out, at, number);
     let given = calls::one_order(kind, size, left, worker, key);
     let next = given.worker;
     let reply = given.reply;
     let behind = printing::put_reply(out, from, reply);
-    let end = lines::put_bytes(out, behind, b"\n");
+    let end = text::put_bytes(out, behind, b"\n");
     Ordered {
         worker: next,
         left: given.left,
@@ -376,15 +316,15 @@ pub fn answer_turn(
     out: &mut [u8],
     at: usize,
 ) -> Stepped
-    requires { ⌜ (activityOk kind size (worker .activity) ≡ true) × ((size ≡ places) × ((places ≤ length (now cells)) × (at + 45200 ≤ length (now out)))) ⌝ }
+    requires { ⌜ (activityOk kind size (worker .activity) ≡ true) × ((size ≡ places) × ((places ≤ length (now cells)) × (at + longestAnswer ≤ length (now out)))) ⌝ }
     ensures { λ r. ⌜ TurnAnswers kind size worker number places (now (cells .entry)) (now (out .entry)) at (now (cells .exit)) (now (out .exit)) r ⌝ }
 {
-    let from = lines::put_number(out, at, number);
+    let from = text::put_number(out, at, number);
     let moved = calls::one_turn(kind, size, &mut cells[..places], worker);
     let next = moved.worker;
     let reply = moved.reply;
     let behind = printing::put_turn(out, from, reply);
-    let end = lines::put_bytes(out, behind, b"\n");
+    let end = text::put_bytes(out, behind, b"\n");
     Stepped {
         worker: next,
         at: end,

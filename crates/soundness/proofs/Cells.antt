@@ -9,7 +9,6 @@ use native.Mathlib.Omega.{arith}
 use lib.Dec.{eqb}
 use lib.ListN.{length, getD}
 use borrow.Author.Tests.{eq-eqb, ne-eqb}
-use Rattle.layout.specs.Home.{modulo}
 use Rattle.layout.specs.Sound.{all, some, clear, isSound}
 use Rattle.layout.proofs.Tests.{all-of, all-at, and-right}
 use Rattle.soundness.specs.Path.{clearTo}
@@ -19,37 +18,37 @@ use Rattle.soundness.proofs.Path.{is-true, is-false}
 abbrev emptyAt : List ℕ → ℕ → Bool
 emptyAt t j = eqb (getD t j 0) 0
 
-abbrev clearAt : List ℕ → ℕ → Bool
-clearAt t j = all (clear (length t) (modulo (length t)) t j) (length t)
+abbrev clearAt : (ℕ → ℕ) → List ℕ → ℕ → Bool
+clearAt home t j = all (clear (length t) home t j) (length t)
 
 -- cells below j are clear, and gap says whether one of them is empty
-pub record Passed (t : List ℕ) (gap : Bool) (j : ℕ) : Type 0 where
+pub record Passed (home : ℕ → ℕ) (t : List ℕ) (gap : Bool) (j : ℕ) : Type 0 where
   pub inside : j ≤ length t
   pub found : gap ≡ some (emptyAt t) j
-  pub cleared : all (clearAt t) j ≡ true
+  pub cleared : all (clearAt home t) j ≡ true
 
-pub pass-starts : (t : List ℕ) → Passed t false 0
+pub pass-starts : (home : ℕ → ℕ) (t : List ℕ) → Passed home t false 0
 unfolding all some
-pass-starts t = record { inside = omega arith; found = refl; cleared = refl }
+pass-starts home t = record { inside = omega arith; found = refl; cleared = refl }
 
 -- the pass looks at cell j
-module _ {t : List ℕ} {gap : Bool} {j : ℕ} (w : Passed t gap j) (l : j < length t) where
-  pub pass-empty : getD t j 0 ≡ 0 → Passed t true (j + 1)
+module _ {home : ℕ → ℕ} {t : List ℕ} {gap : Bool} {j : ℕ} (w : Passed home t gap j) (l : j < length t) where
+  pub pass-empty : getD t j 0 ≡ 0 → Passed home t true (j + 1)
   unfolding all some clear
   pass-empty e = rw add-one (
       record {
         inside = omega arith;
         found = rw (eq-eqb (getD t j 0) 0 e);
-        cleared = rw (← is-true (clearAt t j) (all-of _ (length t) (λ c _. rw (eq-eqb (getD t j 0) 0 e) tt))) (w .cleared);
+        cleared = rw (← is-true (clearAt home t j) (all-of _ (length t) (λ c _. rw (eq-eqb (getD t j 0) 0 e) tt))) (w .cleared);
       })
 
   -- it holds a key, whose path has been walked
   module _ (nz : getD t j 0 ≢ 0) where
-    same-test : clearTo t (getD t j 0) j ≡ all (λ c. clear (length t) (modulo (length t)) t j c) (length t)
+    same-test : clearTo home t (getD t j 0) j ≡ all (λ c. clear (length t) home t j c) (length t)
     unfolding clearTo clear
     same-test = simp (ne-eqb (getD t j 0) 0 nz)
 
-    pub pass-key : clearTo t (getD t j 0) j ≡ true → Passed t gap (j + 1)
+    pub pass-key : clearTo home t (getD t j 0) j ≡ true → Passed home t gap (j + 1)
     unfolding all some
     pass-key h = rw add-one (
         record {
@@ -58,11 +57,11 @@ module _ {t : List ℕ} {gap : Bool} {j : ℕ} (w : Passed t gap j) (l : j < len
           cleared = rw (← same-test, h) (w .cleared);
         })
 
-    pub pass-fails : clearTo t (getD t j 0) j ≡ false → false ≡ isSound (length t) (modulo (length t)) t
+    pub pass-fails : clearTo home t (getD t j 0) j ≡ false → false ≡ isSound (length t) home t
     unfolding isSound
     pass-fails h = is-false _ (λ s.
-        rw (← same-test, h) at (all-at (clearAt t) (length t) (and-right (some (emptyAt t) (length t)) _ (and-right (eqb (length t) (length t)) _ s)) j l))
+        rw (← same-test, h) at (all-at (clearAt home t) (length t) (and-right (some (emptyAt t) (length t)) _ (and-right (eqb (length t) (length t)) _ s)) j l))
 
-pub pass-ends : {t : List ℕ} {gap : Bool} {j : ℕ} → j ≡ length t → Passed t gap j → gap ≡ isSound (length t) (modulo (length t)) t
+pub pass-ends : {home : ℕ → ℕ} {t : List ℕ} {gap : Bool} {j : ℕ} → j ≡ length t → Passed home t gap j → gap ≡ isSound (length t) home t
 unfolding isSound
-pass-ends {t} e w = let v = rw e at w in simp (eq-eqb (length t) (length t) refl, v .cleared, and-true) (v .found)
+pass-ends {home} {t} e w = let v = rw e at w in simp (eq-eqb (length t) (length t) refl, v .cleared, and-true) (v .found)

@@ -8,9 +8,7 @@ use lib.Dec.{T, leb, ltb, leb→le, le→leb, ltb→lt, lt→ltb}
 use lib.ListN.{length, getD}
 use Rattle.ring.proofs.Ring.{Distance, dist-fact}
 use Rattle.ring.proofs.Split.{by-lt, by-eq}
-use Rattle.layout.specs.Home.{modulo}
 use Rattle.layout.specs.Sound.{all}
-use Rattle.layout.proofs.Home.{mod-home}
 use Rattle.layout.proofs.Tests.{all-at, all-of, and-of, and-left, and-right, by-or, or-left, or-right}
 use Rattle.soundness.specs.Path.{greaterBetween, steps, clearTo}
 
@@ -49,22 +47,19 @@ module _ (t : List ℕ) (x : ℕ) where
     between-of f = among-of suc (λ _. a) greaterAt b (λ c l g. f c (omega arith) l)
 
   -- ---- the path to cell j in stretches
-  module _ (j : ℕ) (jn : j < length t) where
-    abbrev home : ℕ
-    home = modulo (length t) x
+  module _ (rule : ℕ → ℕ) (home : ℕ) (is : home ≡ rule x) (below : rule x < length t) (j : ℕ) (jn : j < length t) where
+    away : (c : ℕ) → c < length t → Distance (length t) (rule x) c
+    away c cn = dist-fact (length t) (rule x) c below cn
 
-    away : (c : ℕ) → c < length t → Distance (length t) home c
-    away c cn = dist-fact (length t) home c (mod-home (length t) (omega arith) x) cn
-
-    clear-at : T (clearTo t x j) → (c : ℕ) → c < length t → steps t x c < steps t x j → T (greaterAt c)
+    clear-at : T (clearTo rule t x j) → (c : ℕ) → c < length t → steps rule t x c < steps rule t x j → T (greaterAt c)
     unfolding clearTo
-    clear-at = among-at (λ _. steps t x j) (steps t x) greaterAt (length t)
+    clear-at = among-at (λ _. steps rule t x j) (steps rule t x) greaterAt (length t)
 
-    clear-of : ((c : ℕ) → c < length t → steps t x c < steps t x j → T (greaterAt c)) → T (clearTo t x j)
+    clear-of : ((c : ℕ) → c < length t → steps rule t x c < steps rule t x j → T (greaterAt c)) → T (clearTo rule t x j)
     unfolding clearTo
-    clear-of = among-of (λ _. steps t x j) (steps t x) greaterAt (length t)
+    clear-of = among-of (λ _. steps rule t x j) (steps rule t x) greaterAt (length t)
 
-    pub straight-clear : home ≤ j → greaterBetween t x home j ≡ clearTo t x j
+    pub straight-clear : home ≤ j → greaterBetween t x home j ≡ clearTo rule t x j
     straight-clear l = same-value _ _
         (λ h. clear-of (λ c cn s. between-at home j h c (omega (arith, away c cn, away j jn)) (omega (arith, away c cn, away j jn))))
         (λ h. between-of home j (λ c a b. let cn : c < length t = omega arith in clear-at h c cn (omega (arith, away c cn, away j jn))))
@@ -76,7 +71,7 @@ module _ (t : List ℕ) (x : ℕ) where
     abbrev from-start : Bool
     from-start = greaterBetween t x 0 j
 
-    pub wrapped-clear : {r : Bool} → j < home → to-end ≡ r → (r && from-start) ≡ clearTo t x j
+    pub wrapped-clear : {r : Bool} → j < home → to-end ≡ r → (r && from-start) ≡ clearTo rule t x j
     wrapped-clear l e = rw (← e) (same-value (to-end && from-start) _
         (λ h. clear-of (λ c cn s. by-lt c home
         (λ a. between-at 0 j (and-right to-end _ h) c (omega arith) (omega (arith, away c cn, away j jn)))

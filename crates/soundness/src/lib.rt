@@ -23,11 +23,11 @@ fn greater_between(cells: &[u32], key: u32, from: usize, to: usize) -> bool
 
 // Whether the path of `key` to cell `j` holds only greater keys. A path that wraps is read in two stretches.
 fn path_is_clear(cells: &[u32], key: u32, j: usize) -> bool
-    requires { ⌜ j < length (now cells) ⌝ }
-    ensures { λ r. ⌜ r ≡ clearTo (now (cells .entry)) key j ⌝ }
+    requires { ⌜ (j < length (now cells)) × (length (now cells) < 4294967296) ⌝ }
+    ensures { λ r. ⌜ r ≡ clearTo (modulo (length (now (cells .entry)))) (now (cells .entry)) key j ⌝ }
 {
     let n = cells.len();
-    let home = key as usize % n;
+    let home = geometry::home(n as u32, key) as usize;
     if home <= j {
         return greater_between(cells, key, home, j);
     }
@@ -39,6 +39,7 @@ fn path_is_clear(cells: &[u32], key: u32, j: usize) -> bool
 
 // Whether at least one cell is empty and every key's path holds only greater keys.
 pub fn is_sound(cells: &[u32]) -> bool
+    requires { ⌜ length (now cells) < 4294967296 ⌝ }
     ensures { λ r. ⌜ r ≡ isSound (length (now (cells .entry))) (modulo (length (now (cells .entry)))) (now (cells .entry)) ⌝ }
 {
     let mut gap = false;

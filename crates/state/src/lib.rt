@@ -1,12 +1,14 @@
-// The phase state (document 01: shift record) with its limits, what a worker may be doing, and the refusals.
+// The phase state (document 01: shift record) with its limits and its opening, and the refusals.
+use activities::Activity;
+use activities::Worker;
 use listing::count_keys;
 use soundness::is_sound;
 ghost use Prim.Native.Nat.{_≤_};
 ghost use mathlib.Core.Path.{_≡_};
 ghost use lib.ListN.{length};
-ghost use Rattle.layout.specs.Home.{modulo};
-ghost use Rattle.state.specs.Limits.{gateway, sizeOk, crewOk};
-ghost use Rattle.state.specs.Open.{kindOk, allowance, fresh, refusedPhase, openCall};
+ghost use Rattle.state.specs.Model.{gateway, sizeOk, crewOk};
+ghost use Rattle.activities.specs.Kinds.{kindOk, allowance};
+ghost use Rattle.state.specs.Open.{fresh, refusedPhase, openCall};
 ghost use Rattle.state.specs.Refusals.{numberOf};
 
 // Why a call is refused: the words of document 01's table, in its order.
@@ -55,55 +57,14 @@ pub enum Reply {
     Refused(Refusal),
 }
 
-// What a worker is doing, each activity with its own numbers.
-pub enum Activity {
-    Idle,
-    // Reads on from the home of `key`, now at `cell`.
-    Reading {
-        key: u32,
-        cell: u32,
-    },
-    // About to replace the content of `cell`. Insert: by `key`, if the cell still holds `content`.
-    // Delete: by `content`, read before in cell `from`, if the cell still holds `key`.
-    Replacing {
-        key: u32,
-        cell: u32,
-        from: u32,
-        content: u32,
-    },
-    // Delete: walks back to the home of `key`, now at `cell`.
-    WalkingBack {
-        key: u32,
-        cell: u32,
-    },
-    // Delete: seeks a replacement for `key` in `cell`, on the way forward, now at `at`.
-    SeekingForward {
-        key: u32,
-        cell: u32,
-        at: u32,
-    },
-    // The same on the way back, now at `at`; `content`, read in cell `from`, is the nearest that may replace it so far.
-    SeekingBack {
-        key: u32,
-        cell: u32,
-        from: u32,
-        content: u32,
-        at: u32,
-    },
-}
-
-pub struct Worker {
-    pub activity: Activity,
-}
-
 // The state of a phase. `left`: insert operations that may still be ordered, 0 in other kinds.
 pub struct Phase {
     pub kind: u32,
     pub length: u32,
-    pub count: u32,
+    pub crew: u32,
     pub left: u32,
     pub shut: bool,
-    pub workers: [Worker; Phase::MOST_WORKERS],
+    pub workers: [Worker; Phase::ROOM],
 }
 
 // A phase with the answer of the call that gave it.
@@ -121,6 +82,9 @@ impl Phase {
 
     pub const MOST_WORKERS: usize = 16;
 
+    // The places for workers in a phase.
+    pub const ROOM: usize = Self::MOST_WORKERS;
+
     // Whether a table may have `length` cells.
     pub fn size_ok(length: usize) -> bool
         ensures { λ r. ⌜ r ≡ sizeOk gateway length ⌝ }
@@ -132,14 +96,14 @@ impl Phase {
         }
     }
 
-    // Whether a phase may have `count` workers.
-    pub fn crew_ok(count: usize) -> bool
-        ensures { λ r. ⌜ r ≡ crewOk gateway count ⌝ }
+    // Whether a phase may have `crew` workers.
+    pub fn crew_ok(crew: usize) -> bool
+        ensures { λ r. ⌜ r ≡ crewOk gateway crew ⌝ }
     {
-        if count < Self::FEWEST_WORKERS {
+        if crew < Self::FEWEST_WORKERS {
             false
         } else {
-            count <= Self::MOST_WORKERS
+            crew <= Self::MOST_WORKERS
         }
     }
 
@@ -151,16 +115,16 @@ impl Phase {
     }
 
     // A phase with all workers idle.
-    fn fresh(kind: u32, length: u32, count: u32, left: u32, shut: bool) -> Phase
-        ensures { λ r. ⌜ r ≡ fresh gateway kind length count left shut ⌝ }
+    fn fresh(kind: u32, length: u32, crew: u32, left: u32, shut: bool) -> Phase
+        ensures { λ r. ⌜ r ≡ fresh gateway kind length crew left shut ⌝ }
     {
         let workers = [Worker {
             activity: Activity::Idle,
-        }; Self::MOST_WORKERS];
+        }; Self::ROOM];
         Phase {
             kind,
             length,
-            count,
+            crew,
             left,
             shut,
             workers,
@@ -192,14 +156,14 @@ impl Phase {
         }
     }
 
-    // Opens a phase of a kind, with a count of workers, on a table.
-    pub fn open(kind: u64, count: u64, cells: &[u32]) -> Replied
-        ensures { λ r. ⌜ r ≡ openCall gateway modulo kind count (now (cells .entry)) ⌝ }
+    // Opens a phase of a kind, with a crew of so many workers, on a table.
+    pub fn open(kind: u64, crew: u64, cells: &[u32]) -> Replied
+        ensures { λ r. ⌜ r ≡ openCall gateway kind crew (now (cells .entry)) ⌝ }
     {
         if !Self::size_ok(cells.len()) {
             return Self::refused(Refusal::Size);
         }
-        if !Self::crew_ok(count as usize) {
+        if !Self::crew_ok(crew as usize) {
             return Self::refused(Refusal::Crew);
         }
         if !Self::kind_ok(kind) {
@@ -210,7 +174,7 @@ impl Phase {
         }
         let left = Self::allowance(kind, cells);
         Replied {
-            phase: Self::fresh(kind as u32, cells.len() as u32, count as u32, left, false),
+            phase: Self::fresh(kind as u32, cells.len() as u32, crew as u32, left, false),
             reply: Reply::Accepted,
         }
     }

@@ -1,4 +1,4 @@
-use Rattle.batch.proofs.Opening.{accepted-kept, refused-kept}
+use Rattle.numbered.proofs.Opening.{accepted-kept, refused-kept}
 use borrow.Author.Needs.{needs}
 use Rattle.batch.proofs.run_calls.Statement.{statement}
 use Rattle.batch.proofs.run_calls.Tie as tie

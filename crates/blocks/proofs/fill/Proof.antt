@@ -6,11 +6,13 @@ use native.Mathlib.Omega.{arith}
 use lib.ListN.{length}
 use borrow.Author.Needs.{needs}
 use Rattle.state.specs.declared.Phase.{Phase}
-use Rattle.sheet.specs.declared.Aim.{Aim}
-use Rattle.sheet.proofs.One.{Aimed, aimed, few-crew, some-cells, good-worker, order-line, turn-line}
+use Rattle.fitting.specs.declared.Aim.{Aim}
+use Rattle.fitting.proofs.Fitting.{Aimed, aimed}
+use Rattle.sheet.proofs.One.{few-crew, some-cells, good-worker, order-line, turn-line}
 use Rattle.blocks.specs.declared.Carried.{Carried}
 use Rattle.blocks.specs.Kept.{keptOf}
 use Rattle.blocks.proofs.Filling.{Filling, filling-none, Same, same-none, same-on, end-within, filled-up, no-room, filled-part, next-line, ended-line}
+use Rattle.sheet.specs.Replay.{longestAnswer}
 use Rattle.blocks.proofs.fill.Statement.{statement}
 use Rattle.blocks.proofs.fill.Tie as tie
 
@@ -134,10 +136,11 @@ abbrev head : tie.After-aim-of Inv-loop μ-loop → tie.At-loop Inv-loop μ-loop
 head c = c .before .before .before .before .before .before .before .before .before .before .before
 
 whose : (c : tie.After-aim-of Inv-loop μ-loop) {a : Aim} → c .aim-of .result ≡ a
-    → Aimed (c .before .before .before .read-end .result) (head c .loop .phase .shut) (head c .loop .phase .count) a
-whose c e = aimed (c .before .before .before .read-end .result) (head c .loop .phase .shut) (head c .loop .phase .count) (sym e ∙ c .aim-of .ensures)
+    → Aimed (head c .loop .phase .kind) (head c .loop .phase .shut) (c .before .before .before .read-end .result) (head c .loop .phase .crew) a
+whose c e =
+    aimed (head c .loop .phase .kind) (head c .loop .phase .shut) (c .before .before .before .read-end .result) (head c .loop .phase .crew) (sym e ∙ c .aim-of .ensures)
 
-room : (c : tie.After-aim-of Inv-loop μ-loop) → head c .loop .at + 45200 ≤ length (head c .loop .out)
+room : (c : tie.After-aim-of Inv-loop μ-loop) → head c .loop .at + longestAnswer ≤ length (head c .loop .out)
 room c = omega (arith, c .before .before .before .before .before .before .before .before .before .if1 .left, head c .loop .inv .0 .room)
 
 -- the newline that ends it
@@ -163,13 +166,13 @@ element-copy-out-answer-order : tie.Need-element-copy-out-answer-order Inv-loop 
 element-copy-out-answer-order c =
     let v = head (c .before .before .before) .loop .inv .0 .behind in
     let to = whose (c .before .before .before) (c .before .aim .given .1) in
-    omega (arith, few-crew _ _ (v .held .ready) (to .1 .0), to .1 .1)
+    omega (arith, few-crew _ _ (v .held .ready) (to .0 .up), to .0 .below)
 
 answer-order-requires : tie.Need-answer-order-requires Inv-loop μ-loop
 answer-order-requires c κs =
     let x = c .before .before .before .before .before in
     let to = whose x (c .before .before .before .aim .given .1) in
-    (some-cells _ _ (head x .loop .inv .0 .behind .held .ready) (to .1 .0), room x)
+    (some-cells _ _ (head x .loop .inv .0 .behind .held .ready) (to .0 .up), room x)
 
 mul-next : tie.Need-mul-next Inv-loop μ-loop
 mul-next c = search needs
@@ -178,7 +181,7 @@ element-set-from-next : tie.Need-element-set-from-next Inv-loop μ-loop
 element-set-from-next c =
     let x = c .before .before .before .before .before .before .before .before .before in
     let to = whose x (c .before .before .before .before .before .before .before .aim .given .1) in
-    omega (arith, few-crew _ _ (head x .loop .inv .0 .behind .held .ready) (to .1 .0), to .1 .1)
+    omega (arith, few-crew _ _ (head x .loop .inv .0 .behind .held .ready) (to .0 .up), to .0 .below)
 
 loop-less : tie.Need-loop-less Inv-loop μ-loop
 loop-less c = omega (arith, found (c .before .before .before .before .before .before .before .before .before) .if2 .left)
@@ -190,10 +193,10 @@ loop-again c =
     let to = whose x (c .before .before .before .before .before .before .before .aim .given .1) in
     let read = x .before .before .before .read-end in
     let r = c .before .before .before .answer-order in
-    let a = order-line (v .inv .0 .behind .held .ready) (to .1 .0) (to .1 .1) (r .ensures) in
+    let a = order-line (v .inv .0 .behind .held .ready) to (r .ensures) in
     let line = read .kept .1 .0 in
     let out = r .kept .1 .1 .1 .1 .1 .1 .0 in (
-      next-line (v .inv .0) (inside x) (newline x .byte-at .ensures) (found x .if2 .left) (room x) (sym (to .0) ∙ read .ensures) a _ line out refl,
+      next-line (v .inv .0) (inside x) (newline x .byte-at .ensures) (found x .if2 .left) (room x) (read .ensures) a _ line out refl,
       same-on (v .inv .1) line refl out,
     )
 
@@ -210,14 +213,14 @@ element-copy-out-answer-turn : tie.Need-element-copy-out-answer-turn Inv-loop μ
 element-copy-out-answer-turn c =
     let v = head (c .before .before .before) .loop .inv .0 .behind in
     let to = whose (c .before .before .before) (c .before .aim2 .given .1) in
-    omega (arith, few-crew _ _ (v .held .ready) (to .1 .0), to .1 .1)
+    omega (arith, few-crew _ _ (v .held .ready) (to .up), to .below)
 
 answer-turn-requires : tie.Need-answer-turn-requires Inv-loop μ-loop
 answer-turn-requires c κs =
     let x = c .before .before .before .before .before .before in
     let ready = head x .loop .inv .0 .behind .held .ready in
     let to = whose x (c .before .before .before .before .aim2 .given .1) in
-    let good = good-worker _ _ ready (to .1 .0) _ (to .1 .1) in
+    let good = good-worker _ _ ready (to .up) _ (to .below) in
     (good .0, (good .1, (omega (arith, ready .roomy .fits, ready .roomy .most), room x)))
 
 mul-next-2 : tie.Need-mul-next-2 Inv-loop μ-loop
@@ -227,7 +230,7 @@ element-set-from-next-2 : tie.Need-element-set-from-next-2 Inv-loop μ-loop
 element-set-from-next-2 c =
     let x = c .before .before .before .before .before .before .before .before .before .before .before .before in
     let to = whose x (c .before .before .before .before .before .before .before .before .before .before .aim2 .given .1) in
-    omega (arith, few-crew _ _ (head x .loop .inv .0 .behind .held .ready) (to .1 .0), to .1 .1)
+    omega (arith, few-crew _ _ (head x .loop .inv .0 .behind .held .ready) (to .up), to .below)
 
 loop-less-2 : tie.Need-loop-less-2 Inv-loop μ-loop
 loop-less-2 c = omega (arith, found (c .before .before .before .before .before .before .before .before .before .before .before .before) .if2 .left)
@@ -239,11 +242,11 @@ loop-again-2 c =
     let to = whose x (c .before .before .before .before .before .before .before .before .before .before .aim2 .given .1) in
     let read = x .before .before .before .read-end in
     let r = c .before .before .before .before .before .answer-turn in
-    let a = turn-line (v .inv .0 .behind .held .ready) (to .1 .0) (to .1 .1) (r .ensures) in
+    let a = turn-line (v .inv .0 .behind .held .ready) to (r .ensures) in
     let line = read .kept .1 .0 in
     let cells = r .kept .1 .1 .1 .1 .0 in
     let out = r .kept .1 .1 .1 .1 .1 .1 .0 in (
-      next-line (v .inv .0) (inside x) (newline x .byte-at .ensures) (found x .if2 .left) (room x) (sym (to .0) ∙ read .ensures) a _ line out refl,
+      next-line (v .inv .0) (inside x) (newline x .byte-at .ensures) (found x .if2 .left) (room x) (read .ensures) a _ line out refl,
       same-on (v .inv .1) line cells out,
     )
 

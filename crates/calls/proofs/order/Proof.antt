@@ -5,11 +5,11 @@ use native.Mathlib.Omega.{arith}
 use borrow.Author.Needs.{needs}
 use borrow.Author.Tests.{not-true, not-false, le-leb}
 use lib.ListN.{length-map}
-use Rattle.layout.specs.Home.{modulo}
-use Rattle.state.specs.Limits.{gateway}
+use Rattle.state.specs.Model.{gateway}
 use Rattle.state.specs.declared.Refusal.the-variants.{NoWorker, Shut, Spoilt}
-use Rattle.calls.proofs.Ordering.{with-given, order-refused, order-by-one}
-use Rattle.calls.proofs.WellFormed.{well-formed, ill-by-numbers, Passed, none-passed, fails, passes, passed-all}
+use Rattle.protocol.proofs.Ordering.{with-given, order-refused, order-by-one}
+use Rattle.protocol.proofs.WellFormed.{well-formed-says}
+use Rattle.protocol.proofs.Walk.{ill-by-numbers, Passed, none-passed, fails, passes, passed-all}
 use Rattle.calls.proofs.order.Statement.{statement}
 use Rattle.calls.proofs.order.Tie as tie
 
@@ -28,7 +28,7 @@ refused-requires c κs = search needs
 returns : tie.Need-returns Inv-loop μ-loop
 returns c =
     let a = c .before .before .before .args in
-    order-refused gateway (a .t1) modulo (a .worker) (a .key) _ Spoilt (c .refused .ensures)
+    order-refused gateway (a .t1) (a .worker) (a .key) _ Spoilt (c .refused .ensures)
     (simp (ill-by-numbers gateway (a .t1) (sym (c .before .before .numbers-ok .ensures) ∙ not-true _ (c .before .if1 .taken))))
 
 loop-holds : tie.Need-loop-holds Inv-loop μ-loop
@@ -55,7 +55,7 @@ returns-2 : tie.Need-returns-2 Inv-loop μ-loop
 returns-2 c =
     let b = c .before .before .before .before .before in
     let a = b .before .before .before .args in
-    order-refused gateway (a .t1) modulo (a .worker) (a .key) _ Spoilt (c .refused2 .ensures)
+    order-refused gateway (a .t1) (a .worker) (a .key) _ Spoilt (c .refused2 .ensures)
     (simp (fails gateway (a .t1) _ (b .loop .inv) (c .before .before .before .before .loop-test .taken) _
     (c .before .before .worker-ok .ensures) (not-true _ (c .before .if2 .taken))))
 
@@ -74,7 +74,7 @@ refused-requires-3 c κs = search needs
 returns-3 : tie.Need-returns-3 Inv-loop μ-loop
 returns-3 c =
     let a = c .before .before .before .before .before .before .args in
-    order-refused gateway (a .t1) modulo (a .worker) (a .key) _ Shut (c .refused3 .ensures)
+    order-refused gateway (a .t1) (a .worker) (a .key) _ Shut (c .refused3 .ensures)
     (simp (passed-all _ _ _ (c .before .before .before .loop .inv) (c .before .before .loop-test .left), c .before .if3 .taken))
 
 cast-if4 : tie.Need-cast-if4 Inv-loop μ-loop
@@ -86,7 +86,7 @@ refused-requires-4 c κs = search needs
 returns-4 : tie.Need-returns-4 Inv-loop μ-loop
 returns-4 c =
     let a = c .before .before .before .before .before .before .before .args in
-    order-refused gateway (a .t1) modulo (a .worker) (a .key) _ NoWorker (c .refused4 .ensures)
+    order-refused gateway (a .t1) (a .worker) (a .key) _ NoWorker (c .refused4 .ensures)
     (simp (passed-all _ _ _ (c .before .before .before .before .loop .inv) (c .before .before .before .loop-test .left), c .before .before .if3 .left, le-leb _ _ (c .before .if4 .taken)))
 
 mul-one-order : tie.Need-mul-one-order Inv-loop μ-loop
@@ -95,12 +95,12 @@ mul-one-order c = search needs
 element-copy-out-one-order : tie.Need-element-copy-out-one-order Inv-loop μ-loop
 element-copy-out-one-order c =
     let a = c .before .before .before .before .before .before .args in
-    let w = well-formed gateway (a .t1) (passed-all _ _ _ (c .before .before .before .loop .inv) (c .before .before .loop-test .left)) in omega arith
+    let w = well-formed-says gateway (a .t1) .0 (passed-all _ _ _ (c .before .before .before .loop .inv) (c .before .before .loop-test .left)) in omega arith
 
 one-order-requires : tie.Need-one-order-requires Inv-loop μ-loop
 one-order-requires c κs =
     let a = c .before .before .before .before .before .before .before .args in
-    let w = well-formed gateway (a .t1) (passed-all _ _ _ (c .before .before .before .before .loop .inv) (c .before .before .before .loop-test .left)) in omega arith
+    let w = well-formed-says gateway (a .t1) .0 (passed-all _ _ _ (c .before .before .before .before .loop .inv) (c .before .before .before .loop-test .left)) in omega arith
 
 mul-next : tie.Need-mul-next Inv-loop μ-loop
 mul-next c = search needs
@@ -109,14 +109,14 @@ element-set-from-next : tie.Need-element-set-from-next Inv-loop μ-loop
 element-set-from-next c =
     let d = c .before .before .before .before .before in
     let a = d .before .before .before .before .args in
-    let w = well-formed gateway (a .t1) (passed-all _ _ _ (d .before .loop .inv) (d .loop-test .left)) in omega arith
+    let w = well-formed-says gateway (a .t1) .0 (passed-all _ _ _ (d .before .loop .inv) (d .loop-test .left)) in omega arith
 
 returns-5 : tie.Need-returns-5 Inv-loop μ-loop
 returns-5 c =
     let d = c .before .before .before .before .before in
     let a = d .before .before .before .before .args in
     ap (with-given (a .t1) (a .worker)) (c .before .one-order .ensures)
-    ∙ order-by-one gateway (a .t1) modulo (a .worker) (a .key) (passed-all _ _ _ (d .before .loop .inv) (d .loop-test .left))
+    ∙ order-by-one gateway (a .t1) (a .worker) (a .key) (passed-all _ _ _ (d .before .loop .inv) (d .loop-test .left))
     (c .before .before .before .before .if3 .left) (c .before .before .before .if4 .left)
 
 pub order-spec : {M : Type 1} → statement M

@@ -5,11 +5,11 @@ use native.Mathlib.Omega.{arith}
 use borrow.Author.Needs.{needs}
 use borrow.Author.Tests.{not-true, not-false, eq-eqb, ne-eqb, le-leb}
 use lib.ListN.{length-map}
-use Rattle.layout.specs.Home.{modulo}
-use Rattle.state.specs.Limits.{gateway}
+use Rattle.state.specs.Model.{gateway}
 use Rattle.state.specs.declared.Refusal.the-variants.{OtherTable, NoWorker, Shut, Spoilt}
-use Rattle.calls.proofs.Turning.{with-moved, turn-refused, turn-by-one}
-use Rattle.calls.proofs.WellFormed.{good-worker, well-formed, ill-by-numbers, Passed, none-passed, fails, passes, passed-all}
+use Rattle.protocol.proofs.Turning.{with-moved, turn-refused, turn-by-one}
+use Rattle.protocol.proofs.WellFormed.{good-worker, well-formed-says}
+use Rattle.protocol.proofs.Walk.{ill-by-numbers, Passed, none-passed, fails, passes, passed-all}
 use Rattle.calls.proofs.turn.Statement.{statement}
 use Rattle.calls.proofs.turn.Tie as tie
 
@@ -28,7 +28,7 @@ turn-refused-requires c κs = search needs
 returns : tie.Need-returns Inv-loop μ-loop
 returns c =
     let a = c .before .before .before .before .args in
-    turn-refused gateway (a .t1) (a .cells .now) (a .worker) modulo _ Spoilt (c .turn-refused .ensures)
+    turn-refused gateway (a .t1) (a .cells .now) (a .worker) _ Spoilt (c .turn-refused .ensures)
     (simp (ill-by-numbers gateway (a .t1) (sym (c .before .before .numbers-ok .ensures) ∙ not-true _ (c .before .if1 .taken))))
 
 loop-holds : tie.Need-loop-holds Inv-loop μ-loop
@@ -55,7 +55,7 @@ returns-2 : tie.Need-returns-2 Inv-loop μ-loop
 returns-2 c =
     let b = c .before .before .before .before .before in
     let a = b .before .before .before .before .args in
-    turn-refused gateway (a .t1) (a .cells .now) (a .worker) modulo _ Spoilt (c .turn-refused2 .ensures)
+    turn-refused gateway (a .t1) (a .cells .now) (a .worker) _ Spoilt (c .turn-refused2 .ensures)
     (simp (fails gateway (a .t1) _ (b .loop .inv) (c .before .before .before .before .loop-test .taken) _ (c .before .before .worker-ok .ensures) (not-true _ (c .before .if2 .taken))))
 
 add-i : tie.Need-add-i Inv-loop μ-loop
@@ -73,7 +73,7 @@ turn-refused-requires-3 c κs = search needs
 returns-3 : tie.Need-returns-3 Inv-loop μ-loop
 returns-3 c =
     let a = c .before .before .before .before .before .before .before .args in
-    turn-refused gateway (a .t1) (a .cells .now) (a .worker) modulo _ Shut (c .turn-refused3 .ensures)
+    turn-refused gateway (a .t1) (a .cells .now) (a .worker) _ Shut (c .turn-refused3 .ensures)
     (simp (passed-all _ _ _ (c .before .before .before .loop .inv) (c .before .before .loop-test .left), c .before .if3 .taken))
 
 cast-if4 : tie.Need-cast-if4 Inv-loop μ-loop
@@ -85,7 +85,7 @@ turn-refused-requires-4 c κs = search needs
 returns-4 : tie.Need-returns-4 Inv-loop μ-loop
 returns-4 c =
     let a = c .before .before .before .before .before .before .before .before .args in
-    turn-refused gateway (a .t1) (a .cells .now) (a .worker) modulo _ OtherTable (c .turn-refused4 .ensures)
+    turn-refused gateway (a .t1) (a .cells .now) (a .worker) _ OtherTable (c .turn-refused4 .ensures)
     (simp (passed-all _ _ _ (c .before .before .before .before .loop .inv) (c .before .before .before .loop-test .left), c .before .before .if3 .left, ne-eqb _ _ (c .before .if4 .taken)))
 
 cast-if5 : tie.Need-cast-if5 Inv-loop μ-loop
@@ -97,7 +97,7 @@ turn-refused-requires-5 c κs = search needs
 returns-5 : tie.Need-returns-5 Inv-loop μ-loop
 returns-5 c =
     let a = c .before .before .before .before .before .before .before .before .before .args in
-    turn-refused gateway (a .t1) (a .cells .now) (a .worker) modulo _ NoWorker (c .turn-refused5 .ensures)
+    turn-refused gateway (a .t1) (a .cells .now) (a .worker) _ NoWorker (c .turn-refused5 .ensures)
     (simp (
       passed-all _ _ _ (c .before .before .before .before .before .loop .inv) (c .before .before .before .before .loop-test .left),
       c .before .before .before .if3 .left,
@@ -111,7 +111,7 @@ mul-one-turn c = search needs
 element-copy-out-one-turn : tie.Need-element-copy-out-one-turn Inv-loop μ-loop
 element-copy-out-one-turn c =
     let a = c .before .before .before .before .before .before .before .before .before .args in
-    let w = well-formed gateway (a .t1) (passed-all _ _ _ (c .before .before .before .before .before .loop .inv) (c .before .before .before .before .loop-test .left)) in omega arith
+    let w = well-formed-says gateway (a .t1) .0 (passed-all _ _ _ (c .before .before .before .before .before .loop .inv) (c .before .before .before .before .loop-test .left)) in omega arith
 
 one-turn-requires : tie.Need-one-turn-requires Inv-loop μ-loop
 one-turn-requires c κs =
@@ -128,7 +128,7 @@ element-set-from-next : tie.Need-element-set-from-next Inv-loop μ-loop
 element-set-from-next c =
     let b = c .before .before .before .before .before in let d = b .before .before .before .before .before in
     let a = d .before .before .before .before .args in
-    let w = well-formed gateway (a .t1) (passed-all _ _ _ (d .loop .inv) (b .before .before .before .before .loop-test .left)) in omega arith
+    let w = well-formed-says gateway (a .t1) .0 (passed-all _ _ _ (d .loop .inv) (b .before .before .before .before .loop-test .left)) in omega arith
 
 same-length : tie.Need-same-length Inv-loop μ-loop
 same-length c = search needs
@@ -137,7 +137,7 @@ returns-6 : tie.Need-returns-6 Inv-loop μ-loop
 returns-6 c =
     let b = c .before .before .before .before .before in let d = b .before .before .before .before .before in
     let a = d .before .before .before .before .args in
-    let one = turn-by-one gateway (a .t1) (a .cells .now) (a .worker) modulo
+    let one = turn-by-one gateway (a .t1) (a .cells .now) (a .worker)
     (passed-all _ _ _ (d .loop .inv) (b .before .before .before .before .loop-test .left))
     (b .before .before .before .if3 .left) (b .before .before .if4 .left) (b .before .if5 .left) in (
       ap (with-moved (a .t1) (a .worker)) (c .before .before .before .one-turn .ensures .0) ∙ one .0,

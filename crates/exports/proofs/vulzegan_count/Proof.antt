@@ -1,5 +1,5 @@
 use mathlib.Core.Path.{_∙_, ap}
-use Rattle.exports.specs.Numbers.{countedNumber}
+use Rattle.exports.specs.Numbers.{countedAnswer}
 use borrow.Author.Needs.{needs}
 use Rattle.exports.proofs.vulzegan_count.Statement.{statement}
 use Rattle.exports.proofs.vulzegan_count.Tie as tie
@@ -7,11 +7,11 @@ use Rattle.exports.proofs.vulzegan_count.Tie as tie
 count-requires : tie.Need-count-requires
 count-requires c κs = search needs
 
-counted-number-requires : tie.Need-counted-number-requires
-counted-number-requires c κs = search needs
+counted-answer-requires : tie.Need-counted-answer-requires
+counted-answer-requires c κs = search needs
 
 returns : tie.Need-returns
-returns c = c .counted-number .ensures ∙ ap countedNumber (c .before .count .ensures)
+returns c = c .counted-answer .ensures ∙ ap countedAnswer (c .before .count .ensures)
 
 pub vulzegan-count-spec : {M : Type 1} → statement M
-vulzegan-count-spec = tie.close (tie.spec count-requires counted-number-requires returns)
+vulzegan-count-spec = tie.close (tie.spec count-requires counted-answer-requires returns)

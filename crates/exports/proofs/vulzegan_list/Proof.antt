@@ -1,5 +1,5 @@
 use mathlib.Core.Path.{_∙_, ap}
-use Rattle.exports.specs.Numbers.{countedNumber}
+use Rattle.exports.specs.Numbers.{countedAnswer}
 use borrow.Author.Needs.{needs}
 use Rattle.exports.proofs.vulzegan_list.Statement.{statement}
 use Rattle.exports.proofs.vulzegan_list.Tie as tie
@@ -7,8 +7,8 @@ use Rattle.exports.proofs.vulzegan_list.Tie as tie
 list-requires : tie.Need-list-requires
 list-requires c κs = search needs
 
-counted-number-requires : tie.Need-counted-number-requires
-counted-number-requires c κs = search needs
+counted-answer-requires : tie.Need-counted-answer-requires
+counted-answer-requires c κs = search needs
 
 same-length : tie.Need-same-length
 same-length c = search needs
@@ -16,7 +16,7 @@ same-length c = search needs
 returns : tie.Need-returns
 returns c =
     let listed = c .before .before .before .list .ensures in
-    (c .counted-number .ensures ∙ ap countedNumber (listed .0), listed .1)
+    (c .counted-answer .ensures ∙ ap countedAnswer (listed .0), listed .1)
 
 pub vulzegan-list-spec : {M : Type 1} → statement M
-vulzegan-list-spec = tie.close (tie.spec list-requires counted-number-requires same-length returns)
+vulzegan-list-spec = tie.close (tie.spec list-requires counted-answer-requires same-length returns)

@@ -3,8 +3,8 @@ use mathlib.Core.Path.{_≡_, sym, _∙_, ap}
 use Prim.Native.Nat.{_+_, _-_, _≤_}
 use native.Mathlib.Omega.{arith}
 use borrow.Author.Needs.{needs}
-use Rattle.listing.specs.Words.{placeOf}
-use Rattle.listing.proofs.Places.{place-zero, place-le-length, cells-short, place-after}
+use Rattle.words.specs.Words.{placeOf}
+use Rattle.words.proofs.Places.{place-zero, place-le-length, cells-short, place-after}
 use Rattle.listing.proofs.count_keys.Statement.{statement}
 use Rattle.listing.proofs.count_keys.Tie as tie
 

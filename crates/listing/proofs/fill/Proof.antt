@@ -11,9 +11,9 @@ use lib.ListN.{length}
 use lib.Seq.{sets, length-sets}
 use Rattle.ring.proofs.Split.{by-eq}
 use Rattle.layout.specs.Layout.{In}
-use Rattle.listing.specs.Words.{occupied, keysOf, filled, groups, group, wordOf, placeOf, countOf, groupsListed}
-use Rattle.listing.proofs.Places.{place-zero, place-step, place-le-occupied, place-le-length, count-occupied, cells-short, place-after}
-use Rattle.listing.proofs.Order.{any-order}
+use Rattle.words.specs.Words.{occupied, keysOf, filled, groups, group, wordOf, placeOf, countOf, groupsListed}
+use Rattle.words.proofs.Places.{place-zero, place-step, place-le-occupied, place-le-length, count-occupied, cells-short, place-after}
+use Rattle.words.proofs.Order.{any-order}
 use Rattle.listing.proofs.fill.Statement.{statement}
 use Rattle.listing.proofs.fill.Tie as tie
 

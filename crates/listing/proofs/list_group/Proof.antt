@@ -11,7 +11,7 @@ use borrow.Author.Tests.{eq-eqb, ne-eqb}
 use lib.Dec.{eqb}
 use lib.ListN.{length, getD, drop, set, length-set, drop-of-length-le}
 use lib.Seq.{sets, drop-cons}
-use Rattle.listing.specs.Words.{taken, occupied, keysOf}
+use Rattle.words.specs.Words.{taken, occupied, keysOf}
 use Rattle.listing.proofs.list_group.Statement.{statement}
 use Rattle.listing.proofs.list_group.Tie as tie
 

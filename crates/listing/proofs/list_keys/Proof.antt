@@ -5,7 +5,7 @@ use Prim.Native.Nat.{ℕ, _≤_, _<_}
 use native.Mathlib.Omega.{arith}
 use borrow.Author.Tests.{le-leb, lt-leb}
 use lib.ListN.{length}
-use Rattle.listing.specs.Words.{filled, countOf, listedIn}
+use Rattle.words.specs.Words.{filled, countOf, listedIn}
 use borrow.Author.Needs.{needs}
 use Rattle.listing.proofs.list_keys.Statement.{statement}
 use Rattle.listing.proofs.list_keys.Tie as tie

@@ -7,8 +7,8 @@ use native.Mathlib.Omega.{arith}
 use lib.ListN.{length, getD, drop, length-drop}
 use lib.Pow.{pow-mono}
 use lib.Seq.{drop-cons, drop-length}
-use Rattle.listing.specs.Words.{taken, wordOf}
-use Rattle.listing.proofs.Words.{taken-le, word-lt}
+use Rattle.words.specs.Words.{taken, wordOf}
+use Rattle.words.proofs.Words.{taken-le, word-lt}
 use Rattle.listing.proofs.occupancy.Statement.{statement}
 use Rattle.listing.proofs.occupancy.Tie as tie
 

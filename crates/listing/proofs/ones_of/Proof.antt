@@ -2,7 +2,7 @@
 use mathlib.Core.Path.{ap}
 use native.Mathlib.Omega.{arith}
 use lib.Count.{ones}
-use Rattle.listing.proofs.Words.{ones-word, occupied-le}
+use Rattle.words.proofs.Words.{ones-word, occupied-le}
 use borrow.Author.Needs.{needs}
 use Rattle.listing.proofs.ones_of.Statement.{statement}
 use Rattle.listing.proofs.ones_of.Tie as tie

@@ -31,12 +31,6 @@ enum-told-4 c = search needs
 put-answer-requires-3 : tie.Need-put-answer-requires-3
 put-answer-requires-3 c κs = search needs
 
-enum-told-5 : tie.Need-enum-told-5
-enum-told-5 c = search needs
-
-put-answer-requires-4 : tie.Need-put-answer-requires-4
-put-answer-requires-4 c κs = search needs
-
 same-length : tie.Need-same-length
 same-length c = search needs
 
@@ -61,12 +55,6 @@ same-length-4 c = search needs
 returns-4 : tie.Need-returns-4
 returns-4 c = rw (c .before .before .before .before .enum-told4 .given .1) (c .before .before .put-answer3 .ensures)
 
-same-length-5 : tie.Need-same-length-5
-same-length-5 c = search needs
-
-returns-5 : tie.Need-returns-5
-returns-5 c = rw (c .before .before .before .before .enum-told5 .given .1) (c .before .before .put-answer4 .ensures)
-
 pub put-finish-spec : {M : Type 1} → statement M
 put-finish-spec =
     tie.close
@@ -80,8 +68,6 @@ put-finish-spec =
     put-answer-requires-2
     enum-told-4
     put-answer-requires-3
-    enum-told-5
-    put-answer-requires-4
     same-length
     returns
     same-length-2
@@ -89,6 +75,4 @@ put-finish-spec =
     same-length-3
     returns-3
     same-length-4
-    returns-4
-    same-length-5
-    returns-5)
+    returns-4)

@@ -1,19 +1,19 @@
 use native.Mathlib.Omega.{arith}
-use Rattle.lines.proofs.Digits.{twenty-digits}
+use Rattle.text.proofs.Digits.{most-digits}
 use Rattle.printing.proofs.Printing.{printed-on, as-long}
 use borrow.Author.Needs.{needs}
 use Rattle.printing.proofs.put_list.Statement.{statement}
 use Rattle.printing.proofs.put_list.Tie as tie
 
 put-field-requires : tie.Need-put-field-requires
-put-field-requires c κs = omega (arith, twenty-digits _ (c .before .before .before .fits .count .fits))
+put-field-requires c κs = omega (arith, most-digits _ (c .before .before .before .fits .count .fits))
 
 put-keys-requires : tie.Need-put-keys-requires
 put-keys-requires c κs = let e = c .before .before .before .put-field .ensures in omega (
   arith,
   e .place,
   as-long e,
-  twenty-digits _
+  most-digits _
       (c .before .before .before .before .before .before .before .fits .count .fits),
 )
 
@@ -24,7 +24,7 @@ returns : tie.Need-returns
 returns c =
     let e = c .before .before .before .before .before .before .put-field .ensures in
     let f = c .before .before .put-keys .ensures in
-    (printed-on e (f .0), omega (arith, e .place, f .1, twenty-digits _ (c .before .before .before .before .before .before .before .before .before .before .fits .count .fits)))
+    (printed-on e (f .0), omega (arith, e .place, f .1, most-digits _ (c .before .before .before .before .before .before .before .before .before .before .fits .count .fits)))
 
 pub put-list-spec : {M : Type 1} → statement M
 put-list-spec = tie.close (tie.spec put-field-requires put-keys-requires same-length returns)

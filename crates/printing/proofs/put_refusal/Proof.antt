@@ -1,5 +1,5 @@
 use mathlib.Core.Path.{ap}
-use Rattle.lines.specs.Digits.{digitsOf}
+use Rattle.text.specs.Digits.{digitsOf}
 use native.Mathlib.Omega.{arith}
 use mathlib.Core.List.{[], _∷_, _++_}
 use Rattle.printing.specs.Fields.{field, refused}

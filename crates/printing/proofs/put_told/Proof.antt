@@ -1,5 +1,5 @@
 use native.Mathlib.Omega.{arith}
-use Rattle.printing.proofs.Printing.{all-written, soon, reply-short, turn-short}
+use Rattle.printing.proofs.Printing.{soon, reply-short, turn-short}
 use borrow.Author.Needs.{needs}
 use Rattle.printing.proofs.put_told.Statement.{statement}
 use Rattle.printing.proofs.put_told.Tie as tie
@@ -27,15 +27,6 @@ enum-known-told-3 c = search needs
 
 put-list-requires : tie.Need-put-list-requires
 put-list-requires c κs = search needs
-
-enum-told-2 : tie.Need-enum-told-2
-enum-told-2 c = search needs
-
-slice-aggregate-put-bytes : tie.Need-slice-aggregate-put-bytes
-slice-aggregate-put-bytes c = search needs
-
-put-bytes-requires : tie.Need-put-bytes-requires
-put-bytes-requires c κs = search needs
 
 same-length : tie.Need-same-length
 same-length c = search needs
@@ -69,12 +60,6 @@ same-length-4 c = search needs
 returns-4 : tie.Need-returns-4
 returns-4 c = let e = c .before .before .put-list .ensures in rw (c .before .before .before .before .before .told3 .given .1) (e .0, omega (arith, e .1))
 
-same-length-5 : tie.Need-same-length-5
-same-length-5 c = search needs
-
-returns-5 : tie.Need-returns-5
-returns-5 c = rw (c .before .before .before .before .before .enum-told2 .given .1) (soon (omega arith) (all-written (omega arith) (c .before .before .put-bytes .ensures)))
-
 pub put-told-spec : {M : Type 1} → statement M
 put-told-spec =
     tie.close
@@ -87,9 +72,6 @@ put-told-spec =
     put-finishes-requires
     enum-known-told-3
     put-list-requires
-    enum-told-2
-    slice-aggregate-put-bytes
-    put-bytes-requires
     same-length
     returns
     same-length-2
@@ -97,6 +79,4 @@ put-told-spec =
     same-length-3
     returns-3
     same-length-4
-    returns-4
-    same-length-5
-    returns-5)
+    returns-4)

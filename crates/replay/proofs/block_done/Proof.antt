@@ -6,12 +6,13 @@ use borrow.Author.Needs.{needs}
 use Rattle.blocks.specs.Kept.{keptOf}
 use Rattle.blocks.proofs.Filling.{Behind, behind-none, Same, same-none, same-on, fits, rest-long}
 use Rattle.replay.proofs.Passing.{filled-within, filled-on, passes, passes-ended, passes-failed}
+use Rattle.sheet.specs.Replay.{longestAnswer}
 use Rattle.replay.proofs.block_done.Statement.{statement}
 use Rattle.replay.proofs.block_done.Tie as tie
 
 abbrev Inv-loop : tie.InvT-loop
 Inv-loop block line₀ cells₀ out₀ kept₀ from₀ line cells out kept from =
-    Behind (keptOf kept₀ line₀ cells₀) block line cells kept from × (45200 ≤ length out × Same line₀ cells₀ out₀ line cells out)
+    Behind (keptOf kept₀ line₀ cells₀) block line cells kept from × (longestAnswer ≤ length out × Same line₀ cells₀ out₀ line cells out)
 
 abbrev μ-loop : tie.MeasureT-loop
 μ-loop block line₀ cells₀ out₀ kept₀ from₀ line cells out kept from = length block - from

@@ -1,5 +1,6 @@
 use mathlib.Core.Path.{_≡_, ap, _∙_}
 use mathlib.Core.List.{[]}
+use Rattle.lines.specs.Grammar.{longestLine, keptBytes}
 use Rattle.feed.specs.Feed.{Kept}
 use native.Mathlib.Omega.{arith}
 use borrow.Author.Needs.{needs}
@@ -13,16 +14,11 @@ Inv-loop cells₀ block₀ out₀ line₀ carried₀ left₀ cells block out lin
 abbrev μ-loop : tie.MeasureT-loop
 μ-loop cells₀ block₀ out₀ line₀ carried₀ left₀ cells block out line carried left = left
 
-large-buffer-requires : tie.Need-large-buffer-requires Inv-loop μ-loop
-large-buffer-requires c κs = search needs
-
-large-buffer-requires-2 : tie.Need-large-buffer-requires-2 Inv-loop μ-loop
-large-buffer-requires-2 c κs = search needs
-
 start-requires : tie.Need-start-requires Inv-loop μ-loop
 start-requires c κs = search needs
 
 loop-holds : tie.Need-loop-holds Inv-loop μ-loop
+unfolding keptBytes longestLine
 loop-holds c =
     record {
       held = c .start .ensures .held _ (search needs);
@@ -44,6 +40,7 @@ slice-aggregate-read-done : tie.Need-slice-aggregate-read-done Inv-loop μ-loop
 slice-aggregate-read-done c = search needs
 
 slice-aggregate-read-done-2 : tie.Need-slice-aggregate-read-done-2 Inv-loop μ-loop
+unfolding keptBytes longestLine
 slice-aggregate-read-done-2 c = search needs
 
 slice-aggregate-read-done-3 : tie.Need-slice-aggregate-read-done-3 Inv-loop μ-loop
@@ -146,8 +143,6 @@ main-spec =
     (tie.spec
     Inv-loop
     μ-loop
-    large-buffer-requires
-    large-buffer-requires-2
     start-requires
     loop-holds
     slice-aggregate-read

@@ -1,9 +1,8 @@
 use mathlib.Core.Path.{_∙_, sym, ap}
-use Rattle.layout.specs.Home.{modulo}
-use Rattle.state.specs.Limits.{gateway}
+use Rattle.state.specs.Model.{gateway}
 use Rattle.state.specs.declared.Reply.the-variants.{Accepted, Refused}
-use Rattle.rest.specs.declared.Counted.the-variants as counted
-use Rattle.rest.proofs.Answers.{count-by}
+use Rattle.tables.specs.declared.Counted.the-variants as counted
+use Rattle.tables.proofs.Answers.{count-by}
 use borrow.Author.Needs.{needs}
 use Rattle.rest.proofs.count.Statement.{statement}
 use Rattle.rest.proofs.count.Tie as tie
@@ -21,11 +20,11 @@ enum-known-checked : tie.Need-enum-known-checked
 enum-known-checked c = search needs
 
 returns : tie.Need-returns
-returns c = ap counted.Keys (c .count-keys .ensures) ∙ sym (count-by gateway modulo (c .before .before .before .before .before .args .cells .now) Accepted (sym
+returns c = ap counted.Keys (c .count-keys .ensures) ∙ sym (count-by gateway (c .before .before .before .before .before .args .cells .now) Accepted (sym
     (c .before .before .before .check .ensures) ∙ c .before .enum-told .given .1))
 
 returns-2 : tie.Need-returns-2
-returns-2 c = sym (count-by gateway modulo (c .before .before .before .before .before .args .cells .now) (Refused _) (sym (c .before .before .before .check .ensures) ∙ c .before .checked .given .1))
+returns-2 c = sym (count-by gateway (c .before .before .before .before .before .args .cells .now) (Refused _) (sym (c .before .before .before .check .ensures) ∙ c .before .checked .given .1))
 
 pub count-spec : {M : Type 1} → statement M
 count-spec =

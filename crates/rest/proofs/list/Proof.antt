@@ -1,9 +1,8 @@
 use mathlib.Core.Path.{_∙_, refl, sym}
-use Rattle.layout.specs.Home.{modulo}
-use Rattle.state.specs.Limits.{gateway}
+use Rattle.state.specs.Model.{gateway}
 use Rattle.state.specs.declared.Reply.the-variants.{Refused}
-use Rattle.rest.specs.declared.Counted.the-variants as counted
-use Rattle.rest.proofs.Answers.{listed-as, list-by, short, full}
+use Rattle.tables.specs.declared.Counted.the-variants as counted
+use Rattle.tables.proofs.Answers.{listed-as, list-by, short, full}
 use borrow.Author.Needs.{needs}
 use Rattle.rest.proofs.list.Statement.{statement}
 use Rattle.rest.proofs.list.Tie as tie
@@ -23,8 +22,8 @@ list-keys-requires c κs = search needs
 returns : tie.Need-returns
 returns c =
     let a = c .before .before .before .before .before .before .args in
-    listed-as gateway modulo (a .cells .now) (a .out .now) (counted.Refused _)
-    (list-by gateway modulo (a .cells .now) (a .out .now) (Refused _) (sym (c .before .before .before .check .ensures) ∙ c .before .checked .given .1)) (a .out .now) refl
+    listed-as gateway (a .cells .now) (a .out .now) (counted.Refused _)
+    (list-by gateway (a .cells .now) (a .out .now) (Refused _) (sym (c .before .before .before .check .ensures) ∙ c .before .checked .given .1)) (a .out .now) refl
 
 same-length : tie.Need-same-length
 same-length c = search needs
@@ -33,7 +32,7 @@ returns-2 : tie.Need-returns-2
 returns-2 c =
     let a = c .before .before .before .before .before .before .before .before .before .before .args in
     let listed = c .before .before .before .list-keys .ensures in
-    short gateway modulo (a .cells .now) (a .out .now)
+    short gateway (a .cells .now) (a .out .now)
     (sym (c .before .before .before .before .before .before .before .check .ensures) ∙ c .before .before .before .before .before .enum-told .given .1) _ _ (listed .0) (listed .1) (c .if1 .taken)
 
 same-length-2 : tie.Need-same-length-2
@@ -43,7 +42,7 @@ returns-3 : tie.Need-returns-3
 returns-3 c =
     let a = c .before .before .before .before .before .before .before .before .before .before .args in
     let listed = c .before .before .before .list-keys .ensures in
-    full gateway modulo (a .cells .now) (a .out .now)
+    full gateway (a .cells .now) (a .out .now)
     (sym (c .before .before .before .before .before .before .before .check .ensures) ∙ c .before .before .before .before .before .enum-told .given .1) _ _ (listed .0) (listed .1) (c .if1 .left)
 
 pub list-spec : {M : Type 1} → statement M

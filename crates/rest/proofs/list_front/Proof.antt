@@ -1,8 +1,7 @@
 use mathlib.Core.Path.{_∙_, sym}
-use Rattle.layout.specs.Home.{modulo}
-use Rattle.state.specs.Limits.{gateway}
-use Rattle.rest.specs.declared.Counted.the-variants as counted
-use Rattle.rest.proofs.Answers.{front, front-as, front-length}
+use Rattle.state.specs.Model.{gateway}
+use Rattle.tables.specs.declared.Counted.the-variants as counted
+use Rattle.tables.proofs.Answers.{front, front-as, front-length}
 use borrow.Author.Needs.{needs}
 use Rattle.rest.proofs.list_front.Statement.{statement}
 use Rattle.rest.proofs.list_front.Tie as tie
@@ -17,7 +16,7 @@ slice-aggregate-result : tie.Need-slice-aggregate-result
 slice-aggregate-result c =
     let a = c .before .before .before .before .before .before .before .before .before .before .args in
     let listed = c .before .before .before .before .before .before .list .ensures in
-    front-length gateway modulo (a .cells .now) (a .out .now) _ _ (sym (listed .0) ∙ c .before .before .listed .given .1) (listed .1)
+    front-length gateway (a .cells .now) (a .out .now) _ _ (sym (listed .0) ∙ c .before .before .listed .given .1) (listed .1)
 
 enum-told : tie.Need-enum-told
 enum-told c = search needs
@@ -29,12 +28,12 @@ returns : tie.Need-returns
 returns c =
     let a = c .before .before .before .before .before .before .before .before .before .before .args in
     let listed = c .before .before .before .before .before .before .list .ensures in
-    front gateway modulo (a .cells .now) (a .out .now) _ _ (sym (listed .0) ∙ c .before .before .listed .given .1) (listed .1)
+    front gateway (a .cells .now) (a .out .now) _ _ (sym (listed .0) ∙ c .before .before .listed .given .1) (listed .1)
 
 returns-2 : tie.Need-returns-2
 returns-2 c =
     let a = c .before .before .before .before .before .before .before .before .before .args in
-    sym (front-as gateway modulo (a .cells .now) (a .out .now) (counted.Refused _) (sym (c .before .before .before .before .before .list .ensures .0) ∙ c .before .enum-told .given .1))
+    sym (front-as gateway (a .cells .now) (a .out .now) (counted.Refused _) (sym (c .before .before .before .before .before .list .ensures .0) ∙ c .before .enum-told .given .1))
 
 pub list-front-spec : {M : Type 1} → statement M
 list-front-spec =

@@ -46,17 +46,16 @@ use denote.Triple.Walked.{says, Stays, stay-ref, gave-slice, stay-none, walkOf, 
 use denote.Exit.{yes}
 use denote.Signature.{plain}
 use Rattle.state.specs.declared.Phase.{Phase}
-use Rattle.calls.specs.declared.Turned.{Turned}
-use Rattle.calls.specs.declared.TurnReply.{TurnReply}
-use Rattle.layout.specs.Home.{modulo}
-use Rattle.state.specs.Limits.{gateway}
-use Rattle.calls.specs.Calls.{turnCall, turnTable}
+use Rattle.protocol.specs.declared.Turned.{Turned}
+use Rattle.protocol.specs.declared.TurnReply.{TurnReply}
+use Rattle.state.specs.Model.{gateway}
+use Rattle.protocol.specs.Calls.{turnCall, turnTable}
 use Rattle.state.proofs.Phase as T
 use Rattle.state.proofs.Phase.Laws as T′
-use Rattle.calls.proofs.Turned as U
-use Rattle.calls.proofs.Turned.Laws as U′
-use Rattle.calls.proofs.TurnReply as N
-use Rattle.calls.proofs.TurnReply.Laws as N′
+use Rattle.protocol.proofs.Turned as U
+use Rattle.protocol.proofs.Turned.Laws as U′
+use Rattle.protocol.proofs.TurnReply as N
+use Rattle.protocol.proofs.TurnReply.Laws as N′
 use Rattle.calls.proofs.turn as turn
 use Rattle.calls.proofs.turn.Symbol as turn-def
 use Rattle.calls.proofs.turn.Symbol.{name as #turn}
@@ -110,7 +109,7 @@ module _
 
     -- what `turn` says of its result and of the last table
     abbrev IsTurn : Turned → List ℕ → Type 0
-    IsTurn r zs = (r ≡ turnCall gateway p ys n modulo) × (zs ≡ turnTable gateway p ys n modulo)
+    IsTurn r zs = (r ≡ turnCall gateway p ys n) × (zs ≡ turnTable gateway p ys n)
 
     turn-may-be-called : Is T.the-row p (phaseVal p ∷ [])
         → ent 𝓤 (sep 𝓤 (sep 𝓤 (A .lft κ′ q′) (sem 𝓤 H A ftrue)) (sem 𝓤 H A (MutSlice (named 0) κ′ u32 .own x (s ∷ [])))) (Turn 𝓤 H A at-mem run .pre to-turn)

@@ -1,3 +1,4 @@
+-- A line is read and fitted to the phase; what it asks for is performed and printed.
 use mathlib.Core.Path.{sym, _∙_}
 use native.Mathlib.Omega.{arith}
 use Rattle.sheet.specs.Store.{stateOf}
@@ -7,6 +8,13 @@ use Rattle.sheet.proofs.Answering.{room-left, bad-printed, line-printed
 use borrow.Author.Needs.{needs}
 use Rattle.sheet.proofs.answer.Statement.{statement}
 use Rattle.sheet.proofs.answer.Tie as tie
+
+-- the places behind which a line is read, and the function begins
+abbrev read : tie.After-perform → tie.After-reading-in
+read p = p .before .before .before .before .before .before .before
+
+abbrev start : tie.After-reading-in → tie.Start
+start x = x .before .before .before .before .before .before .before
 
 put-number-requires : tie.Need-put-number-requires
 put-number-requires c κs = search needs
@@ -31,57 +39,49 @@ same-length c = search needs
 
 returns : tie.Need-returns
 returns c =
-    let a = c .before .before .before .before .before .before .before .before .before .before .before .before .before .before .args in
-    let h = c .before .before .before .before .before .before .before .before .before .before .before .before .before .before .pre in
-    answers-bad (a .replay) (a .cells .now) (h .0) (a .line) (a .number) (a .at) (a .out .now) (sym
-    (c .before .before .before .before .before .before .before .reading-in .ensures) ∙ c .before .before .before .before .before .enum-told .given .1) _ _
-    (bad-printed (a .number) (c .before .before .before .before .before .before .before .before .before .before .before .before .before .before .fits .number .fits)
-    (h .1) (c .before .before .before .before .before .before .before .before .before .before .put-number .ensures) (c .before .before .put-bytes .ensures))
+    let x = c .before .before .before .before .before .before .before in
+    let b = start x in
+    let bad = sym (x .reading-in .ensures) ∙ c .before .before .before .before .before .enum-told .given .1 in
+    answers-bad (b .args .replay) (b .args .cells .now) (b .pre .0) (b .args .line) (b .args .number) (b .args .at) (b .args .out .now) bad _ _
+    (bad-printed (b .args .number) (b .fits .number .fits) (b .pre .1) (x .before .before .before .put-number .ensures) (c .before .before .put-bytes .ensures))
 
 perform-requires : tie.Need-perform-requires
 perform-requires c κs =
-    let a = c .before .before .before .before .before .before .before .before .before .before .before .args in
-    let h = c .before .before .before .before .before .before .before .before .before .before .before .pre .0 in
-    (h .roomy, allowed (stateOf (a .replay) (a .cells .now)) (h .valid) (a .line) _ (sym (c .before .before .before .before .reading-in .ensures) ∙ c .before .before .task .given .1))
+    let x = c .before .before .before .before .before .before in
+    let b = start x in
+    let asked = sym (x .reading-in .ensures) ∙ c .before .before .before .before .task .given .1 in
+    (b .pre .0 .roomy, allowed (stateOf (b .args .replay) (b .args .cells .now)) (b .pre .0 .valid) (b .args .line) _ asked)
 
 cast-put-told : tie.Need-cast-put-told
 cast-put-told c = search needs
 
 slice-reshare-prefix-put-told : tie.Need-slice-reshare-prefix-put-told
-slice-reshare-prefix-put-told c = let a =
-    c .before .before .before .before .before .before .before .before .before .before .before .before .before .before .before .before .before .before .args in inside
-    (next-roomy (a .replay) (a .cells .now)
-    (c .before .before .before .before .before .before .before .before .before .before .before .before .before .before .before .before .before .before .pre .0) (a .line)
-    _ (sym (c .before .before .before .before .before .before .before .before .before .before .before .reading-in .ensures) ∙
-    c .before .before .before .before .before .before .before .before .before .task .given .1) _ _ (c .before .before .before .before .before .before .perform .ensures)
-    (c .before .before .before .before .before .before .perform .kept .1 .1 .0))
+slice-reshare-prefix-put-told c =
+    let p = c .before .before .before .before .before .before in
+    let x = read p in
+    let b = start x in
+    let asked = sym (x .reading-in .ensures) ∙ p .before .before .before .before .before .task .given .1 in
+    let next = next-roomy (b .args .replay) (b .args .cells .now) (b .pre .0) (b .args .line) _ asked _ _ (p .perform .ensures) (p .perform .kept .1 .1 .1 .0) in
+    inside next
 
 slice-aggregate-put-told : tie.Need-slice-aggregate-put-told
-slice-aggregate-put-told c = let a =
-    c .before .before .before .before .before .before .before .before .before .before .before .before .before .before .before .before .before .before .before .args in sym
-    (table-length (next-roomy (a .replay) (a .cells .now)
-    (c .before .before .before .before .before .before .before .before .before .before .before .before .before .before .before .before .before .before .before .pre .0)
-    (a .line) _ (sym (c .before .before .before .before .before .before .before .before .before .before .before .before .reading-in .ensures) ∙
-    c .before .before .before .before .before .before .before .before .before .before .task .given .1) _ _
-    (c .before .before .before .before .before .before .before .perform .ensures) (c .before .before .before .before .before .before .before .perform .kept .1 .1 .0)))
+slice-aggregate-put-told c =
+    let p = c .before .before .before .before .before .before .before in
+    let x = read p in
+    let b = start x in
+    let asked = sym (x .reading-in .ensures) ∙ p .before .before .before .before .before .task .given .1 in
+    let next = next-roomy (b .args .replay) (b .args .cells .now) (b .pre .0) (b .args .line) _ asked _ _ (p .perform .ensures) (p .perform .kept .1 .1 .1 .0) in
+    sym (table-length next)
 
 put-told-requires : tie.Need-put-told-requires
 put-told-requires c κs =
-    let a = c .before .before .before .before .before .before .before .before .before .before .before .before .before .before .before .before .before .before .before .args in
-    let g = next-roomy (a .replay) (a .cells .now)
-    (c .before .before .before .before .before .before .before .before .before .before .before .before .before .before .before .before .before .before .before .pre .0)
-    (a .line) _ (sym (c .before .before .before .before .before .before .before .before .before .before .before .before .reading-in .ensures) ∙
-    c .before .before .before .before .before .before .before .before .before .before .task .given .1) _ _
-    (c .before .before .before .before .before .before .before .perform .ensures)
-    (c .before .before .before .before .before .before .before .perform .kept .1 .1 .0) in
-    room-left (a .number) (a .out .now) (a .at)
-    (c .before .before .before .before .before .before .before .before .before .before .before .before .before .before .before .before .before .before .before .fits .number .fits)
-    (c .before .before .before .before .before .before .before .before .before .before .before .before .before .before .before .before .before .before .before .pre .1)
-    (c .before .before .before .before .before .before .before .before .before .before .before .before .before .before .before .put-number .ensures) _ (omega (
-      arith,
-      table-length g,
-      g .fits,
-    ))
+    let p = c .before .before .before .before .before .before .before in
+    let x = read p in
+    let b = start x in
+    let asked = sym (x .reading-in .ensures) ∙ p .before .before .before .before .before .task .given .1 in
+    let next = next-roomy (b .args .replay) (b .args .cells .now) (b .pre .0) (b .args .line) _ asked _ _ (p .perform .ensures) (p .perform .kept .1 .1 .1 .0) in
+    room-left (b .args .number) (b .args .out .now) (b .args .at) (b .fits .number .fits) (b .pre .1) (x .before .before .before .put-number .ensures) _
+    (omega (arith, table-length next, next .fits))
 
 slice-aggregate-put-bytes-2 : tie.Need-slice-aggregate-put-bytes-2
 slice-aggregate-put-bytes-2 c = search needs
@@ -93,34 +93,20 @@ same-length-2 : tie.Need-same-length-2
 same-length-2 c = search needs
 
 same-length-3 : tie.Need-same-length-3
-same-length-3 c = search needs
+same-length-3 c =
+    let p = c .before .before .before .before .before .before .before .before .before .before .before .before .before .before .before in
+    c .before .before .put-bytes2 .kept .0 ∙ c .before .before .before .before .before .before .before .put-told .kept .0 ∙ read p .before .before .before .put-number .kept .0
 
 returns-2 : tie.Need-returns-2
 returns-2 c =
-    let a =
-    c .before .before .before .before .before .before .before .before .before .before .before .before .before .before .before .before .before .before .before .before .before .before .before .before .before .before .before .args in
-    let h =
-    c .before .before .before .before .before .before .before .before .before .before .before .before .before .before .before .before .before .before .before .before .before .before .before .before .before .before .before .pre in
-    let e = (sym
-    (c .before .before .before .before .before .before .before .before .before .before .before .before .before .before .before .before .before .before .before .before .reading-in .ensures)
-    ∙
-    c .before .before .before .before .before .before .before .before .before .before .before .before .before .before .before .before .before .before .task .given .1) in
-    let g = next-roomy (a .replay) (a .cells .now)
-    (c .before .before .before .before .before .before .before .before .before .before .before .before .before .before .before .before .before .before .before .before .before .before .before .before .before .before .before .pre .0)
-    (a .line) _ (sym
-    (c .before .before .before .before .before .before .before .before .before .before .before .before .before .before .before .before .before .before .before .before .reading-in .ensures)
-    ∙
-    c .before .before .before .before .before .before .before .before .before .before .before .before .before .before .before .before .before .before .task .given .1)
-    _ _ (c .before .before .before .before .before .before .before .before .before .before .before .before .before .before .before .perform .ensures)
-    (c .before .before .before .before .before .before .before .before .before .before .before .before .before .before .before .perform .kept .1 .1 .0) in
-    answers-todo (a .replay) (a .cells .now) (h .0) (a .line) _ e _ _
-    (c .before .before .before .before .before .before .before .before .before .before .before .before .before .before .before .perform .ensures)
-    (c .before .before .before .before .before .before .before .before .before .before .before .before .before .before .before .perform .kept .1 .1 .0) (a .number)
-    (a .at) (a .out .now) _ _
-    (line-printed (a .number)
-    (c .before .before .before .before .before .before .before .before .before .before .before .before .before .before .before .before .before .before .before .before .before .before .before .before .before .before .before .fits .number .fits)
-    (h .1) (omega (arith, table-length g, g .fits))
-    (c .before .before .before .before .before .before .before .before .before .before .before .before .before .before .before .before .before .before .before .before .before .before .before .put-number .ensures)
+    let p = c .before .before .before .before .before .before .before .before .before .before .before .before .before .before .before in
+    let x = read p in
+    let b = start x in
+    let asked = sym (x .reading-in .ensures) ∙ p .before .before .before .before .before .task .given .1 in
+    let next = next-roomy (b .args .replay) (b .args .cells .now) (b .pre .0) (b .args .line) _ asked _ _ (p .perform .ensures) (p .perform .kept .1 .1 .1 .0) in
+    answers-todo (b .args .replay) (b .args .cells .now) (b .pre .0) (b .args .line) _ asked _ _ (p .perform .ensures) (p .perform .kept .1 .1 .1 .0) (b .args .number)
+    (b .args .at) (b .args .out .now) _ _
+    (line-printed (b .args .number) (b .fits .number .fits) (b .pre .1) (omega (arith, table-length next, next .fits)) (x .before .before .before .put-number .ensures)
     (c .before .before .before .before .before .before .before .put-told .ensures) (c .before .before .put-bytes2 .ensures))
 
 pub answer-spec : {M : Type 1} → statement M

@@ -1,4 +1,4 @@
-use Rattle.sheet.proofs.One.{eleven-left, reply-printed, order-told}
+use Rattle.sheet.proofs.One.{reply-room, reply-printed, order-told}
 use borrow.Author.Needs.{needs}
 use Rattle.sheet.proofs.answer_order.Statement.{statement}
 use Rattle.sheet.proofs.answer_order.Tie as tie
@@ -13,7 +13,7 @@ put-reply-requires : tie.Need-put-reply-requires
 put-reply-requires c κs =
     let b = c .before .before .before .before .before in
     let d = b .before .before .before in
-    eleven-left (d .args .number) (d .args .out .now) (d .args .at) (d .fits .number .fits) (d .pre .1) (b .put-number .ensures)
+    reply-room (d .args .number) (d .args .out .now) (d .args .at) (d .fits .number .fits) (d .pre .1) (b .put-number .ensures)
 
 slice-aggregate-put-bytes : tie.Need-slice-aggregate-put-bytes
 slice-aggregate-put-bytes c = search needs

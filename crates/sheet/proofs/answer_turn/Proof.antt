@@ -1,6 +1,6 @@
 use mathlib.Core.Path.{sym, _∙_}
 use lib.Seq.{length-take-le}
-use Rattle.sheet.proofs.One.{eleven-left, turn-printed, turn-told}
+use Rattle.sheet.proofs.One.{reply-room, turn-printed, turn-told}
 use borrow.Author.Needs.{needs}
 use Rattle.sheet.proofs.answer_turn.Statement.{statement}
 use Rattle.sheet.proofs.answer_turn.Tie as tie
@@ -23,7 +23,7 @@ put-turn-requires : tie.Need-put-turn-requires
 put-turn-requires c κs =
     let b = c .before .before .before .before .before .before .before .before in
     let d = b .before .before .before .before in
-    eleven-left (d .args .number) (d .args .out .now) (d .args .at) (d .fits .number .fits) (d .pre .1 .1 .1) (b .put-number .ensures)
+    reply-room (d .args .number) (d .args .out .now) (d .args .at) (d .fits .number .fits) (d .pre .1 .1 .1) (b .put-number .ensures)
 
 slice-aggregate-put-bytes : tie.Need-slice-aggregate-put-bytes
 slice-aggregate-put-bytes c = search needs

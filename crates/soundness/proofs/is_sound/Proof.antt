@@ -6,18 +6,19 @@ use native.Mathlib.Omega.{arith}
 use borrow.Author.Tests.{not-true, not-false}
 use borrow.Author.Needs.{needs}
 use lib.ListN.{length}
+use Rattle.layout.specs.Home.{modulo}
 use Rattle.soundness.proofs.Cells.{Passed, pass-starts, pass-empty, pass-key, pass-fails, pass-ends}
 use Rattle.soundness.proofs.is_sound.Statement.{statement}
 use Rattle.soundness.proofs.is_sound.Tie as tie
 
 abbrev Inv-loop : tie.InvT-loop
-Inv-loop cells gap₀ j₀ gap j = Passed cells gap j
+Inv-loop cells gap₀ j₀ gap j = Passed (modulo (length cells)) cells gap j
 
 abbrev μ-loop : tie.MeasureT-loop
 μ-loop cells gap₀ j₀ gap j = length cells - j
 
 loop-holds : tie.Need-loop-holds Inv-loop μ-loop
-loop-holds c = pass-starts (c .before .args .cells .now)
+loop-holds c = pass-starts _ (c .before .args .cells .now)
 
 mul-key : tie.Need-mul-key Inv-loop μ-loop
 mul-key c = search needs

@@ -1,2 +1,0 @@
-pub mod Batch
-pub mod Examples

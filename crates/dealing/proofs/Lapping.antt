@@ -1,0 +1,150 @@
+-- A lap in code: one worker after the other takes its turn by itself, and the record is not tested.
+use mathlib.Core.Path.{_≡_, refl, sym, ap, _∙_}
+use mathlib.Core.Bool.{true, false}
+use mathlib.Core.List.{List}
+use Prim.Native.Nat.{ℕ, _+_, _≤_, _<_}
+use native.Mathlib.Numerals.{add-one}
+use native.Mathlib.Omega.{arith}
+use lib.ListN.{length, getD, set}
+use lib.Seq.{set-getD}
+use Rattle.state.specs.Model.{Model, Proper}
+use Rattle.activities.specs.Activities.{idle, activityOk, isIdle}
+use Rattle.activities.specs.declared.Activity.the-variants.{Idle}
+use Rattle.state.specs.declared.Phase.{Phase}
+use Rattle.activities.proofs.Activities.{idle-says}
+use Rattle.protocol.specs.Bars.{doing}
+use Rattle.protocol.specs.Calls.{withWorker}
+use Rattle.protocol.specs.Split.{oneTurn, oneTable}
+use Rattle.protocol.specs.declared.Moved.{Moved}
+use Rattle.protocol.proofs.Turning.{turn-by-one}
+use Rattle.protocol.proofs.WellFormed.{good-worker}
+use Rattle.dealing.specs.declared.Finish.{Finish}
+use Rattle.dealing.specs.Reached.{From, Reached}
+use Rattle.dealing.specs.Deal.{Dealing, unfinished, finishAfter, dealTo, deal, lap}
+use Rattle.dealing.proofs.Reached.{passed, formed, sized, crew, accepts}
+use Rattle.dealing.proofs.Settling.{Opened, deal-opened}
+
+-- worker w after its turn, with the rest as it was
+abbrev pub withMoved : Dealing → ℕ → Moved → List ℕ → Dealing
+withMoved d w m t =
+    record {
+      dealt = record {
+        phase = withWorker (d .dealt .phase) w (m .worker .activity);
+        finishes = set (d .dealt .finishes) w (finishAfter (getD (d .dealt .finishes) w unfinished) (m .reply));
+      };
+      table = t;
+    }
+
+-- ---- the lap that began at d₀ has come to d, with worker w next
+pub record Lapping (M : Model) (d₀ : Dealing) (count : ℕ) (d : Dealing) (w : ℕ) : Type 0 where
+  pub reached : Reached M (d₀ .dealt .phase) (d₀ .table)
+  pub running : d₀ .dealt .phase .shut ≡ false
+  pub all : count ≡ d₀ .dealt .phase .crew
+  pub few : count ≤ M .room
+  pub within : w ≤ count
+  pub same : d ≡ deal M w d₀
+
+module _ (M : Model) (proper : Proper M) where
+  module _ (k m : ℕ) (t : List ℕ) (d : Dealing) (o : Opened M k m t d) (w : ℕ) where
+    one-dealt : w < d .dealt .phase .crew
+        → let p = d .dealt .phase in
+        let worker = getD (p .workers) w idle in
+        withMoved d w (oneTurn M (p .kind) (p .length) (d .table) worker) (oneTable M (p .kind) (p .length) (d .table) worker) ≡ dealTo M w d
+    unfolding dealTo
+    one-dealt l =
+        let p = d .dealt .phase in
+        let (a, b) = turn-by-one M p (d .table) w (formed M proper k m t p (d .table) (o .from)) (o .running) (sized M proper k m t p (d .table) (o .from)) l in
+        rw (← a, b)
+
+    -- an idle worker's turn changes nothing
+    idle-dealt : w < d .dealt .phase .crew → isIdle (doing (d .dealt .phase) w) ≡ true → dealTo M w d ≡ d
+    unfolding dealTo
+    idle-dealt l free =
+        let p = d .dealt .phase in
+        let ok = accepts M proper k m t p (d .table) (o .from) w (o .running) l in
+        let a : doing p w ≡ Idle = idle-says (doing p w) .0 free in
+        rw (ok, a, set-getD)
+
+  few-workers : (k m : ℕ) (t : List ℕ) (p : Phase) (u : List ℕ) → From M k m t p u → p .crew ≤ M .room
+  few-workers k m t p u h = omega (arith, proper .places, crew M proper k m t p u h, passed M proper k m t p u h .1)
+
+  module _ (d₀ : Dealing) (count : ℕ) where
+    pub lap-starts : Reached M (d₀ .dealt .phase) (d₀ .table) → d₀ .dealt .phase .shut ≡ false → count ≡ d₀ .dealt .phase .crew → Lapping M d₀ count d₀ 0
+    unfolding deal
+    lap-starts h up e = record {
+      reached = h;
+      running = up;
+      all = e;
+      few = omega (arith, few-workers (h .kind) (h .crew) (h .opened) (d₀ .dealt .phase) (d₀ .table) (h .by));
+      within = omega arith;
+      same = refl;
+    }
+
+    module _ (d : Dealing) (w : ℕ) (g : Lapping M d₀ count d w) where
+      abbrev from : From M (g .reached .kind) (g .reached .crew) (g .reached .opened) (d₀ .dealt .phase) (d₀ .table)
+      from = g .reached .by
+
+      here : Opened M (g .reached .kind) (g .reached .crew) (g .reached .opened) d
+      here = rw (g .same)
+          (deal-opened M proper (g .reached .kind) (g .reached .crew) (g .reached .opened) w d₀ (record { from = from; running = g .running }))
+
+      below : w < count → w < d .dealt .phase .crew
+      below l =
+          omega (
+            arith,
+            g .all,
+            crew M proper (g .reached .kind) (g .reached .crew) (g .reached .opened) (d .dealt .phase) (d .table) (here .from),
+            crew M proper (g .reached .kind) (g .reached .crew) (g .reached .opened) (d₀ .dealt .phase) (d₀ .table) from,
+          )
+
+      lap-on : w < count
+          → let p = d .dealt .phase in
+          let worker = getD (p .workers) w idle in
+          Lapping M d₀ count (withMoved d w (oneTurn M (p .kind) (p .length) (d .table) worker) (oneTable M (p .kind) (p .length) (d .table) worker)) (w + 1)
+      lap-on l =
+          record {
+            reached = g .reached;
+            running = g .running;
+            all = g .all;
+            few = g .few;
+            within = omega arith;
+            same = one-dealt (g .reached .kind) (g .reached .crew) (g .reached .opened) d here w (below l) ∙ ap (dealTo M w) (g .same) ∙ unfold deal in (rw add-one);
+          }
+
+      -- the same with what the code has found
+      pub lap-next : w < count → (moved : Moved) (u : List ℕ) (f : Finish)
+          → let p = d .dealt .phase in
+          let worker = getD (p .workers) w idle in
+          moved ≡ oneTurn M (p .kind) (p .length) (d .table) worker → u ≡ oneTable M (p .kind) (p .length) (d .table) worker
+          → f ≡ finishAfter (getD (d .dealt .finishes) w unfinished) (moved .reply)
+          → Lapping M d₀ count
+          (record { dealt = record { phase = withWorker p w (moved .worker .activity); finishes = set (d .dealt .finishes) w f }; table = u }) (w + 1)
+      lap-next l moved u f a b e = rw (e, a, b) (lap-on l)
+
+      -- the same with a worker that the code passes over
+      pub lap-skips : w < count → isIdle (doing (d .dealt .phase) w) ≡ true → Lapping M d₀ count d (w + 1)
+      lap-skips l free =
+          record {
+            reached = g .reached;
+            running = g .running;
+            all = g .all;
+            few = g .few;
+            within = omega arith;
+            same = sym (idle-dealt (g .reached .kind) (g .reached .crew) (g .reached .opened) d here w (below l) free) ∙ ap (dealTo M w) (g .same)
+                ∙ unfold deal in (rw add-one);
+          }
+
+      -- what the next worker's turn must find
+      pub lap-good : w < count
+          → let p = d .dealt .phase in
+          (activityOk (p .kind) (p .length) (doing p w) ≡ true) × (p .length ≡ length (d .table))
+      lap-good l =
+          let p = d .dealt .phase in
+          let good = formed M proper (g .reached .kind) (g .reached .crew) (g .reached .opened) p (d .table) (here .from) in
+          let b = below l in (
+            good-worker M p good w (omega arith),
+            sized M proper (g .reached .kind) (g .reached .crew) (g .reached .opened) p (d .table) (here .from),
+          )
+
+      pub lap-ends : count ≤ w → d ≡ lap M d₀
+      lap-ends l = let e : w ≡ d₀ .dealt .phase .crew = omega (arith, g .all, g .within) in g .same ∙ ap (λ x. deal M x d₀) e

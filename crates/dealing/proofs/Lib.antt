@@ -1,0 +1,4 @@
+pub mod Reached
+pub mod Lapping
+pub mod Laps
+pub mod Settling

@@ -1,0 +1,88 @@
+// The line `run`: turns dealt to the workers one lap after the other, until all are idle.
+use protocol::TurnReply;
+use rule::Answer;
+use state::Phase;
+ghost use mathlib.Core.Path.{_≡_};
+ghost use mathlib.Core.Bool.{false};
+ghost use lib.ListN.{replicate};
+ghost use Rattle.state.specs.Model.{gateway};
+ghost use Rattle.dealing.specs.Reached.{Reached};
+ghost use Rattle.dealing.specs.Deal;
+ghost use Rattle.dealing.specs.Deal.{Dealing, unfinished, finishAfter};
+
+// How an operation ended.
+pub enum Ended {
+    Nothing,
+    Finished,
+    Yes,
+    No,
+}
+
+// How a worker's operation ended; `Nothing` where none has ended.
+pub struct Finish {
+    pub ended: Ended,
+}
+
+// A phase with how the operations of its workers ended.
+pub struct Dealt {
+    pub phase: Phase,
+    pub finishes: [Finish; Phase::ROOM],
+}
+
+pub fn no_finishes() -> [Finish; Phase::ROOM]
+    ensures { λ r. ⌜ r ≡ replicate (gateway .room) unfinished ⌝ }
+{
+    [Finish {
+        ended: Ended::Nothing,
+    }; Phase::ROOM]
+}
+
+// How a worker's operation ended, after one more turn.
+fn finish_after(before: Finish, reply: TurnReply) -> Finish
+    ensures { λ r. ⌜ r ≡ finishAfter before reply ⌝ }
+{
+    let TurnReply::Answered(answer) = reply else {
+        return before;
+    };
+    match answer {
+        Answer::WentOn => before,
+        Answer::Finished => Finish {
+            ended: Ended::Finished,
+        },
+        Answer::Yes => Finish { ended: Ended::Yes },
+        Answer::No => Finish { ended: Ended::No },
+        Answer::Idle => before,
+    }
+}
+
+// Turns in an open phase until all workers are idle. The record is not tested: calls have led to it. A worker that is idle is passed over: its
+// turn would change nothing. One function with both loops, so that the phase is not copied for each lap.
+pub fn run(mut phase: Phase, cells: &mut [u32]) -> Dealt
+    requires { ⌜ Reached gateway phase (now cells) × (phase .shut ≡ false) ⌝ }
+    ensures { λ r. ⌜ _≡_ {A = Dealing} (record { dealt = r; table = now (cells .exit) }) (Deal.run gateway phase (now (cells .entry))) ⌝ }
+{
+    let mut finishes = no_finishes();
+    let count = phase.crew as usize;
+    loop {
+        let workers = phase.workers;
+        if formed::all_idle(workers) {
+            return Dealt { phase, finishes };
+        }
+        let mut w: usize = 0;
+        while w < count {
+            let worker = phase.workers[w];
+            let activity = worker.activity;
+            if formed::is_idle(activity) {
+                w += 1;
+                continue;
+            }
+            let moved = calls::one_turn(phase.kind, phase.length, cells, worker);
+            let next = moved.worker;
+            let reply = moved.reply;
+            let before = finishes[w];
+            phase.workers[w] = next;
+            finishes[w] = finish_after(before, reply);
+            w += 1;
+        }
+    }
+}

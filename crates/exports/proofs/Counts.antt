@@ -1,0 +1,39 @@
+-- A count is at most the table's length, and so a value.
+use mathlib.Core.Path.{_≡_, refl, ap, sym, _∙_}
+use mathlib.Core.List.{List}
+use Prim.Native.Nat.{ℕ, _≤_}
+use native.Mathlib.Omega.{arith}
+use lib.ListN.{length}
+use Rattle.layout.specs.Layout.{size}
+use Rattle.layout.proofs.Sets.{size-le}
+use Rattle.state.specs.Model.{gateway}
+use Rattle.state.proofs.Model.{gateway-proper}
+use Rattle.tables.specs.Calls.{countNumber, countValue, countCall, listCall}
+use Rattle.tables.specs.Promise.{AtRest}
+use Rattle.tables.specs.declared.Counted.the-variants as counted
+use Rattle.tables.proofs.Theorem.{theorem}
+use Rattle.exports.specs.Numbers.{CountsPromise}
+
+module _ (t out : List ℕ) (c : ℕ) where
+  abbrev at-rest : AtRest gateway t out
+  at-rest = theorem gateway gateway-proper t out
+
+  is-count : countCall gateway t ≡ counted.Keys c → (c ≡ size t) × (length t ≤ 8192)
+  is-count e =
+      let (_, (_, none)) = at-rest .check in
+      let ((_, sized), sound) = none .0 (sym (at-rest .count-refused) ∙ ap countNumber e) in
+      (sym (ap countValue e) ∙ at-rest .count-true (sized, sound), sized .1)
+
+  is-listed : listCall gateway t out ≡ counted.Keys c → (c ≡ size t) × (length t ≤ 8192)
+  is-listed e =
+      let (_, (_, (_, none))) = at-rest .list in
+      let (((_, sized), sound), _) = none .0 (ap countNumber e) in
+      (sym (ap countValue e) ∙ at-rest .list-true (ap countNumber e), sized .1)
+
+pub counts-promise : CountsPromise
+counts-promise = record {
+  keys = λ c. refl;
+  refused = λ r. refl;
+  count = λ t c e. omega (arith, size-le t, is-count t t c e);
+  list = λ t out c e. omega (arith, size-le t, is-listed t out c e);
+}

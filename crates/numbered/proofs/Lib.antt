@@ -1,0 +1,5 @@
+pub mod Applying
+pub mod Examples
+pub mod Numbers
+pub mod Opening
+pub mod Running

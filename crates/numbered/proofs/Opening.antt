@@ -1,0 +1,62 @@
+-- The calls after an opening, and what is promised of them.
+use mathlib.Core.Path.{_≡_, refl, sym, ap, _∙_, subst}
+use mathlib.Core.List.{List}
+use Prim.Native.Nat.{ℕ}
+use Rattle.state.proofs.Model.{gateway-proper}
+use Rattle.state.specs.Model.{Model, gateway}
+use Rattle.state.specs.Open.{openReply, opened, openCall}
+use Rattle.state.specs.declared.Phase.{Phase}
+use Rattle.state.specs.declared.Refusal.{Refusal}
+use Rattle.state.specs.declared.Replied.{Replied}
+use Rattle.state.specs.declared.Reply.{Reply}
+use Rattle.state.specs.declared.Reply.the-variants.{Accepted, Refused}
+use Rattle.history.specs.History.{Call, run, opening}
+use Rattle.history.specs.Promise.{Claim}
+use Rattle.history.proofs.Theorem.{history}
+use Rattle.numbered.specs.Lists.{callsLent, answersOf, RunGives, RunsFrom}
+use Rattle.numbered.specs.Batch.{ifAccepted, Ran, Promised}
+
+module _ (M : Model) (k m : ℕ) (t : List ℕ) where
+  opened-reply : (r : Reply) → opened M k m t r .reply ≡ r
+  opened-reply Accepted = refl
+  opened-reply (Refused r) = refl
+
+  -- the answer that the function read is the definition's
+  told : (o : Replied) (r : Reply) → o ≡ openCall M k m t → o .reply ≡ r → openReply M k m t ≡ r
+  told o r is read = sym (opened-reply (openReply M k m t)) ∙ ap (λ (x : Replied). x .reply) (sym is) ∙ read
+
+  module _ (ops workers keys out : List ℕ) (o : Replied) (is : o ≡ openCall M k m t) where
+    dealt-ran : (r : Reply) (p : Phase) (t′ out′ : List ℕ) → o .reply ≡ r
+        → RunGives M (ifAccepted M k m t ops workers keys out r) (opening M k m t) out p t′ out′
+        → Ran M k m t ops workers keys out (record { phase = p; reply = r }) t′ out′
+    dealt-ran r p t′ out′ read h =
+        let e = told o r is read in
+        let P : Reply → Type 0 = λ a. RunGives M (ifAccepted M k m t ops workers keys out a) (opening M k m t) out p t′ out′ in
+        record { reply = sym e; gives = subst P (sym e) h }
+
+    accepted-ran : (p : Phase) (t′ out′ : List ℕ) → o .reply ≡ Accepted
+        → RunsFrom M (o .phase) t (callsLent ops workers keys out) out p t′ out′
+        → Ran M k m t ops workers keys out (record { phase = p; reply = Accepted }) t′ out′
+    accepted-ran p t′ out′ read h = dealt-ran Accepted p t′ out′ read (h (opening M k m t) (ap (λ (x : Replied). x .phase) (sym is)) refl)
+
+    refused-ran : (why : Refusal) → o .reply ≡ Refused why
+        → Ran M k m t ops workers keys out (record { phase = o .phase; reply = Refused why }) t out
+    unfolding run answersOf
+    refused-ran why read =
+        dealt-ran (Refused why) (o .phase) t out read (record { phase = ap (λ (x : Replied). x .phase) is; table = refl; answers = refl })
+
+-- every list of calls after an accepted opening keeps the promises
+promised : (k m : ℕ) (t : List ℕ) (cs : List Call) → openReply gateway k m t ≡ Accepted → Claim gateway k m t cs
+promised k m t cs accepted = history gateway gateway-proper k m t accepted cs
+
+-- ---- what a function that opens a phase and runs the calls has to show
+module _ (k m : ℕ) (t ops workers keys out : List ℕ) (o : Replied) (is : o ≡ openCall gateway k m t) where
+  abbrev Kept : Replied → List ℕ → List ℕ → Type 0
+  Kept r t′ out′ = Ran gateway k m t ops workers keys out r t′ out′ × Promised gateway k m t ops workers keys out
+
+  pub accepted-kept : (p : Phase) (t′ out′ : List ℕ) → o .reply ≡ Accepted → RunsFrom gateway (o .phase) t (callsLent ops workers keys out) out p t′ out′
+      → Kept (record { phase = p; reply = Accepted }) t′ out′
+  accepted-kept p t′ out′ read h = (accepted-ran gateway k m t ops workers keys out o is p t′ out′ read h, promised k m t _)
+
+  pub refused-kept : (why : Refusal) → o .reply ≡ Refused why → Kept (record { phase = o .phase; reply = Refused why }) t out
+  refused-kept why read = (refused-ran gateway k m t ops workers keys out o is why read, promised k m t _)

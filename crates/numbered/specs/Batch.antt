@@ -1,0 +1,29 @@
+-- An opening and the calls after it, given as numbers: what code gives, and what is promised of it.
+use mathlib.Core.Path.{_≡_}
+use mathlib.Core.List.{List, []}
+use Prim.Native.Nat.{ℕ}
+use Rattle.state.specs.Model.{Model}
+use Rattle.state.specs.Open.{openReply}
+use Rattle.state.specs.declared.Replied.{Replied}
+use Rattle.state.specs.declared.Reply.{Reply}
+use Rattle.state.specs.declared.Reply.the-variants.{Accepted, Refused}
+use Rattle.history.specs.History.{Call, opening}
+use Rattle.history.specs.Promise.{Claim}
+use Rattle.numbered.specs.Lists.{callsLent, RunGives}
+
+module _ (M : Model) (k m : ℕ) (t ops workers keys out : List ℕ) where
+  -- none if the opening is refused
+  abbrev pub ifAccepted : Reply → List Call
+  ifAccepted Accepted = callsLent ops workers keys out
+  ifAccepted (Refused r) = []
+
+  abbrev pub dealt : List Call
+  dealt = ifAccepted (openReply M k m t)
+
+  pub record Ran (r : Replied) (t′ out′ : List ℕ) : Type 0 where
+    pub reply : r .reply ≡ openReply M k m t
+    pub gives : RunGives M dealt (opening M k m t) out (r .phase) t′ out′
+
+  -- what is promised of the calls where the opening is accepted
+  abbrev pub Promised : Type 0
+  Promised = openReply M k m t ≡ Accepted → Claim M k m t dealt

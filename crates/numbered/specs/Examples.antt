@@ -1,0 +1,65 @@
+-- Lists of calls given as numbers, with the numbers of their answers and the table that they leave.
+use mathlib.Core.Path.{_≡_}
+use mathlib.Core.List.{List, [], _∷_, _++_}
+use Prim.Native.Nat.{ℕ}
+use lib.ListN.{length, drop}
+use Rattle.state.specs.Model.{gateway}
+use Rattle.history.specs.History.{opening, after}
+use Rattle.numbered.specs.Numbers.{refused, word}
+use Rattle.numbered.specs.Lists.{answersOf}
+use Rattle.numbered.specs.Batch.{dealt}
+
+pub record Batch : Type 0 where
+  pub kind : ℕ
+  pub crew : ℕ
+  pub table : List ℕ
+  pub ops : List ℕ
+  pub workers : List ℕ
+  pub keys : List ℕ
+  pub out : List ℕ
+  -- the table and the lent list afterwards; words 1 to 5 are went on, finished, yes, no and idle
+  pub closed : List ℕ
+  pub answers : List ℕ
+
+-- two workers put in 3 and 6; refused calls in between, and calls behind the close; one call more than there are places for answers
+abbrev pub puttingIn : Batch
+puttingIn = record {
+  kind = 1;
+  crew = 2;
+  table = 0 ∷ 0 ∷ 0 ∷ [];
+  ops = 1 ∷ 1 ∷ 1 ∷ 1 ∷ 3 ∷ 2 ∷ 2 ∷ 2 ∷ 2 ∷ 1 ∷ 2 ∷ 2 ∷ 2 ∷ 2 ∷ 1 ∷ 0 ∷ 2 ∷ 1 ∷ 3 ∷ 3 ∷ [];
+  workers = 0 ∷ 0 ∷ 2 ∷ 1 ∷ 9 ∷ 0 ∷ 0 ∷ 0 ∷ 2 ∷ 1 ∷ 1 ∷ 1 ∷ 1 ∷ 1 ∷ 0 ∷ 0 ∷ 0 ∷ 0 ∷ 0 ∷ 0 ∷ [];
+  keys = 3 ∷ 6 ∷ 5 ∷ 0 ∷ 0 ∷ 0 ∷ 0 ∷ 0 ∷ 0 ∷ 6 ∷ 0 ∷ 0 ∷ 0 ∷ 0 ∷ 9 ∷ 0 ∷ 0 ∷ 9 ∷ 0 ∷ 0 ∷ [];
+  out = 77 ∷ 77 ∷ 77 ∷ 77 ∷ 77 ∷ 77 ∷ 77 ∷ 77 ∷ 77 ∷ 77 ∷ 77 ∷ 77 ∷ 77 ∷ 77 ∷ 77 ∷ 77 ∷ 77 ∷ 77 ∷ 77 ∷ [];
+  closed = 6 ∷ 3 ∷ 0 ∷ [];
+  answers = 0 ∷ refused 8 ∷ refused 6 ∷ refused 7 ∷ refused 10 ∷ word 1 ∷ word 2 ∷ word 5 ∷ refused 6 ∷ 0
+      ∷ word 1 ∷ word 1 ∷ word 1 ∷ word 2 ∷ refused 9 ∷ 0 ∷ refused 11 ∷ refused 11 ∷ refused 11 ∷ [];
+}
+
+-- two look-ups; two places behind the answers are kept
+abbrev pub lookingUp : Batch
+lookingUp = record {
+  kind = 3;
+  crew = 1;
+  table = 6 ∷ 3 ∷ 0 ∷ [];
+  ops = 1 ∷ 2 ∷ 2 ∷ 1 ∷ 2 ∷ 3 ∷ [];
+  workers = 0 ∷ 0 ∷ 0 ∷ 0 ∷ 0 ∷ 0 ∷ [];
+  keys = 3 ∷ 0 ∷ 0 ∷ 7 ∷ 0 ∷ 0 ∷ [];
+  out = 77 ∷ 77 ∷ 77 ∷ 77 ∷ 77 ∷ 77 ∷ 77 ∷ 77 ∷ [];
+  closed = 6 ∷ 3 ∷ 0 ∷ [];
+  answers = 0 ∷ word 1 ∷ word 3 ∷ 0 ∷ word 4 ∷ 0 ∷ 77 ∷ 77 ∷ [];
+}
+
+-- a refused opening deals no call
+abbrev pub unopened : Batch
+unopened = record { kind = 4; crew = 1; table = 6 ∷ 3 ∷ 0 ∷ []; ops = 3 ∷ []; workers = 0 ∷ []; keys = 0 ∷ []; out = 77 ∷ []; closed = 6 ∷ 3 ∷ 0 ∷ []; answers = 77 ∷ [] }
+
+module _ (b : Batch) where
+  abbrev pub Leaves : Type 0
+  Leaves =
+      let cs = dealt gateway (b .kind) (b .crew) (b .table) (b .ops) (b .workers) (b .keys) (b .out) in
+      (after gateway (b .kind) (b .crew) (b .table) cs .table ≡ b .closed)
+      × (answersOf gateway cs (opening gateway (b .kind) (b .crew) (b .table)) ++ drop (length cs) (b .out) ≡ b .answers)
+
+abbrev pub BatchesPromise : Type 0
+BatchesPromise = Leaves puttingIn × (Leaves lookingUp × Leaves unopened)

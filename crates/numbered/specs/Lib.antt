@@ -1,0 +1,4 @@
+pub mod Batch
+pub mod Examples
+pub mod Lists
+pub mod Numbers

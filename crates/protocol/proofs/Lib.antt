@@ -1,0 +1,8 @@
+pub mod Calls
+pub mod Chain
+pub mod Keeping
+pub mod Ordering
+pub mod Theorem
+pub mod Turning
+pub mod Walk
+pub mod WellFormed

@@ -1,0 +1,70 @@
+-- The test for well-formed phases, its numbers first and then one worker at a time.
+use Prim.Native.Nat.{ℕ, _+_, _<_, _≤_}
+use mathlib.Core.Bool.{Bool, true, false, cond}
+use mathlib.Core.List.{List}
+use mathlib.Core.Path.{_≡_, _∙_}
+use native.Mathlib.Numerals.{add-one}
+use native.Mathlib.Omega.{arith}
+use lib.Dec.{ltb}
+use lib.ListN.{length, getD, drop, drop-of-length-le}
+use lib.Seq.{drop-cons}
+use Rattle.activities.specs.Activities.{idle, isIdle, activityOk}
+use Rattle.activities.specs.declared.Activity.{Activity}
+use Rattle.activities.specs.declared.Worker.{Worker}
+use Rattle.state.specs.Model.{Model}
+use Rattle.state.specs.declared.Phase.{Phase}
+use Rattle.protocol.specs.Bars.{allIdle}
+use Rattle.protocol.specs.IsWellFormed.{numbersOk, workersOk, isWellFormed}
+
+-- ---- the numbers
+module _ (M : Model) (p : Phase) where
+  abbrev numbers : Bool
+  numbers = numbersOk M (p .kind) (p .length) (p .crew) (p .left)
+
+  pub ill-by-numbers : numbers ≡ false → isWellFormed M p ≡ false
+  unfolding isWellFormed
+  ill-by-numbers h = rw h
+
+  by-workers : numbers ≡ true → isWellFormed M p ≡ workersOk (p .kind) (p .length) (p .crew) 0 (p .workers)
+  unfolding isWellFormed
+  by-workers h = rw h
+
+-- ---- the workers
+-- what worker i of a list is doing
+abbrev at : List Worker → ℕ → Activity
+at ws i = getD ws i idle .activity
+
+workersOk-from : (k n m i : ℕ) (ws : List Worker) → i < length ws → workersOk k n m i (drop i ws)
+    ≡ cond (cond (ltb i m) (activityOk k n (at ws i)) (isIdle (at ws i))) (workersOk k n m (i + 1) (drop (i + 1) ws)) false
+workersOk-from k n m i ws h = rw (add-one, drop-cons ws i idle)
+
+-- in a walk over the workers, i of them passed: the phase is well formed if the others are
+pub record Passed (M : Model) (p : Phase) (i : ℕ) : Type 0 where
+  pub some : i ≤ M .room
+  pub all : length (p .workers) ≡ M .room
+  pub others : isWellFormed M p ≡ workersOk (p .kind) (p .length) (p .crew) i (drop i (p .workers))
+
+module _ (M : Model) (p : Phase) (i : ℕ) (s : Passed M p i) where
+  -- the test of the next worker
+  abbrev next : Bool
+  next = cond (ltb i (p .crew)) (activityOk (p .kind) (p .length) (at (p .workers) i)) (isIdle (at (p .workers) i))
+
+  module _ (more : i < M .room) (b : Bool) (told : b ≡ next) where
+    on : isWellFormed M p ≡ cond b (workersOk (p .kind) (p .length) (p .crew) (i + 1) (drop (i + 1) (p .workers))) false
+    on = let h : i < length (p .workers) = omega arith in s .others ∙ workersOk-from (p .kind) (p .length) (p .crew) i (p .workers) h ∙ rw (← told)
+
+    pub fails : b ≡ false → isWellFormed M p ≡ false
+    fails h = on ∙ rw h
+
+    pub passes : b ≡ true → Passed M p (i + 1)
+    passes h = record { some = omega arith; all = s .all; others = on ∙ rw h }
+
+  pub passed-all : M .room ≤ i → isWellFormed M p ≡ true
+  passed-all h = let e : length (p .workers) ≤ i = omega arith in s .others ∙ rw (drop-of-length-le _ e)
+
+pub none-passed : (M : Model) (p : Phase) → numbersOk M (p .kind) (p .length) (p .crew) (p .left) ≡ true → length (p .workers) ≡ M .room
+    → Passed M p 0
+none-passed M p h l = record { some = omega arith; all = l; others = by-workers M p h }
+
+pub allIdle-from : (i : ℕ) (ws : List Worker) → i < length ws → allIdle (drop i ws) ≡ cond (isIdle (at ws i)) (allIdle (drop (i + 1) ws)) false
+allIdle-from i ws h = rw (add-one, drop-cons ws i idle)

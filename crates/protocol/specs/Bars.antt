@@ -1,0 +1,57 @@
+-- The refusals of the calls on a phase, each call's in its sequence: the first whose test holds is given. (The opening's: state/specs/Open.)
+use mathlib.Core.Bool.{Bool, true, false, cond}
+use mathlib.Core.List.{List, [], _∷_, _++_}
+use Prim.Native.Nat.{ℕ}
+use lib.Dec.{leb, eqb}
+use lib.ListN.{length, getD}
+use Rattle.activities.specs.Activities.{idle, isIdle}
+use Rattle.activities.specs.declared.Activity.{Activity}
+use Rattle.activities.specs.declared.Worker.{Worker}
+use Rattle.state.specs.Model.{Model}
+use Rattle.state.specs.Refusals.{Bar, if, unless}
+use Rattle.state.specs.declared.Phase.{Phase}
+use Rattle.state.specs.declared.Refusal.the-variants.{OtherTable, NoWorker, Blank, Busy, Full, Working, Shut, Spoilt}
+use Rattle.protocol.specs.IsWellFormed.{isWellFormed}
+
+-- what worker w is doing
+abbrev pub doing : Phase → ℕ → Activity
+doing p w = getD (p .workers) w idle .activity
+
+abbrev pub allIdle : List Worker → Bool
+allIdle [] = true
+allIdle (w ∷ ws) = cond (isIdle (w .activity)) (allIdle ws) false
+
+-- an insert phase with no operations left
+abbrev pub usedUp : ℕ → ℕ → Bool
+usedUp k left = cond (eqb k 1) (eqb left 0) false
+
+-- ---- parts
+-- of an entry, the key v that is ordered: 7
+abbrev pub entryBars : ℕ → List Bar
+entryBars v = if (eqb v 0) Blank ∷ []
+
+-- of an order of v to a worker doing a, in a phase of kind k with so many insert operations left: 8, the entry's, 9
+abbrev pub workerBars : ℕ → ℕ → Activity → ℕ → List Bar
+workerBars k left a v = unless (isIdle a) Busy ∷ entryBars v ++ if (usedUp k left) Full ∷ []
+
+module _ (M : Model) (p : Phase) where
+  -- of the phase state: 13, 11
+  abbrev pub phaseBars : List Bar
+  phaseBars = unless (isWellFormed M p) Spoilt ∷ if (p .shut) Shut ∷ []
+
+  -- of the worker's number: 6
+  abbrev pub numberBars : ℕ → List Bar
+  numberBars w = if (leb (p .crew) w) NoWorker ∷ []
+
+  -- ---- the calls
+  -- order: 13, 11, 6, 8, 7, 9
+  abbrev pub orderBars : ℕ → ℕ → List Bar
+  orderBars w v = phaseBars ++ numberBars w ++ workerBars (p .kind) (p .left) (doing p w) v
+
+  -- turn: 13, 11, 5, 6
+  abbrev pub turnBars : List ℕ → ℕ → List Bar
+  turnBars t w = phaseBars ++ unless (eqb (p .length) (length t)) OtherTable ∷ numberBars w
+
+  -- close: 13, 11, 10
+  abbrev pub closeBars : List Bar
+  closeBars = phaseBars ++ unless (allIdle (p .workers)) Working ∷ []

@@ -1,0 +1,101 @@
+-- The calls on a phase: order, turn and close.
+use mathlib.Core.Bool.{true, cond}
+use mathlib.Core.List.{List}
+use Prim.Native.Nat.{ℕ, _-_}
+use lib.Dec.{eqb}
+use lib.ListN.{getD, set}
+use Rattle.activities.specs.declared.Activity.{Activity}
+use Rattle.rule.specs.declared.Answer.the-variants as answer
+use Rattle.rule.specs.declared.Place.{Place}
+use Rattle.rule.specs.declared.Place.the-variants.{Nowhere, At}
+use Rattle.rule.specs.Rule.{touched, rule, start}
+use Rattle.state.specs.Model.{Model}
+use Rattle.state.specs.Refusals.{numberOf, firstOf}
+use Rattle.state.specs.declared.Phase.{Phase}
+use Rattle.state.specs.declared.Replied.{Replied}
+use Rattle.state.specs.declared.Reply.{Reply}
+use Rattle.state.specs.declared.Reply.the-variants.{Accepted, Refused}
+use Rattle.protocol.specs.Bars.{doing, orderBars, turnBars, closeBars}
+use Rattle.protocol.specs.declared.TurnReply.{TurnReply}
+use Rattle.protocol.specs.declared.TurnReply.the-variants as turnReply
+use Rattle.protocol.specs.declared.Turned.{Turned}
+
+-- document 01's number of a turn's answer, 0 where the turn is not refused
+abbrev pub turnNumber : TurnReply → ℕ
+turnNumber (turnReply.Answered a) = 0
+turnNumber (turnReply.Refused r) = numberOf r
+
+-- the phase with another activity of worker w, with other insert operations left, and shut
+abbrev pub withWorker : Phase → ℕ → Activity → Phase
+withWorker p w a = record {
+  kind = p .kind;
+  length = p .length;
+  crew = p .crew;
+  left = p .left;
+  shut = p .shut;
+  workers = set (p .workers) w (record { activity = a });
+}
+
+abbrev pub withLeft : Phase → ℕ → Phase
+withLeft p left = record { kind = p .kind; length = p .length; crew = p .crew; left = left; shut = p .shut; workers = p .workers }
+
+abbrev pub shutPhase : Phase → Phase
+shutPhase p = record { kind = p .kind; length = p .length; crew = p .crew; left = p .left; shut = true; workers = p .workers }
+
+module _ (M : Model) (p : Phase) where
+  -- ---- close
+  abbrev pub closeReply : Reply
+  closeReply = firstOf (closeBars M p)
+
+  abbrev pub closed : Reply → Replied
+  closed Accepted = record { phase = shutPhase p; reply = Accepted }
+  closed (Refused r) = record { phase = p; reply = Refused r }
+
+  abbrev pub closeCall : Replied
+  closeCall = closed closeReply
+
+  -- ---- order of key v to worker w
+  abbrev pub orderReply : ℕ → ℕ → Reply
+  orderReply w v = firstOf (orderBars M p w v)
+
+  -- the worker starts at its key's home; an insert operation takes one of those left
+  abbrev pub orderedPhase : ℕ → ℕ → Phase
+  orderedPhase w v = withLeft (withWorker p w (start (M .home (p .length)) v)) (cond (eqb (p .kind) 1) (p .left - 1) (p .left))
+
+  abbrev pub ordered : ℕ → ℕ → Reply → Replied
+  ordered w v Accepted = record { phase = orderedPhase w v; reply = Accepted }
+  ordered w v (Refused r) = record { phase = p; reply = Refused r }
+
+  abbrev pub orderCall : ℕ → ℕ → Replied
+  orderCall w v = ordered w v (orderReply w v)
+
+  -- ---- turn of worker w on the table t
+  module _ (t : List ℕ) (w : ℕ) where
+    abbrev pub turnCheck : Reply
+    turnCheck = firstOf (turnBars M p t w)
+
+    -- at the place that the worker's activity touches, by the rule; an idle worker's turn changes nothing
+    abbrev pub movedAt : Place → Turned
+    movedAt Nowhere = record { phase = p; reply = turnReply.Answered answer.Idle }
+    movedAt (At c) =
+        let o = rule (p .kind) (p .length) (M .home (p .length)) (doing p w) (getD t c 0) in
+        record { phase = withWorker p w (o .activity); reply = turnReply.Answered (o .answer) }
+
+    abbrev pub cellsAt : Place → List ℕ
+    cellsAt Nowhere = t
+    cellsAt (At c) = set t c (rule (p .kind) (p .length) (M .home (p .length)) (doing p w) (getD t c 0) .content)
+
+    abbrev pub turned : Reply → Turned
+    turned Accepted = movedAt (touched (doing p w))
+    turned (Refused r) = record { phase = p; reply = turnReply.Refused r }
+
+    abbrev pub turnedCells : Reply → List ℕ
+    turnedCells Accepted = cellsAt (touched (doing p w))
+    turnedCells (Refused r) = t
+
+    -- the phase and the answer, and the table afterwards
+    abbrev pub turnCall : Turned
+    turnCall = turned turnCheck
+
+    abbrev pub turnTable : List ℕ
+    turnTable = turnedCells turnCheck

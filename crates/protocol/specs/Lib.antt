@@ -1,0 +1,7 @@
+pub mod Bars
+pub mod Calls
+pub mod Cases
+pub mod IsWellFormed
+pub mod Promise
+pub mod Split
+pub mod WellFormed

@@ -1,4 +1,0 @@
-pub mod Reached
-pub mod Rounding
-pub mod Rounds
-pub mod Settling

@@ -1,3 +1,0 @@
-pub mod Promise
-pub mod Reached
-pub mod Rounds

@@ -1,3 +1,0 @@
-pub mod Applying
-pub mod Running
-pub mod Singly

@@ -1,0 +1,112 @@
+// Lists of calls, lent as numbers, each through the function of that call.
+use calls::close;
+use calls::order;
+use calls::turn;
+use protocol::TurnReply;
+use rule::Answer;
+use state::Phase;
+use state::Refusal;
+use state::Reply;
+ghost use mathlib.Core.Path.{_≡_};
+ghost use Prim.Native.Nat.{min};
+ghost use Rattle.state.specs.Model.{gateway};
+ghost use Rattle.numbered.specs.Numbers.{refusalAnswer, stepAnswer, turnAnswer, replyAnswer};
+ghost use Rattle.numbered.specs.Lists.{callsLent, RunsFrom};
+
+// ---- the numbers of answers
+// Where the numbers of refusals begin, and behind them those of words. Below are values.
+const REFUSALS: u64 = 4294967296;
+
+const WORDS: u64 = 8589934592;
+
+pub fn refusal_answer(why: Refusal) -> u64
+    ensures { λ r. ⌜ r ≡ refusalAnswer why ⌝ }
+{
+    REFUSALS + why.number() as u64
+}
+
+fn step_answer(answer: Answer) -> u64
+    ensures { λ r. ⌜ r ≡ stepAnswer answer ⌝ }
+{
+    match answer {
+        Answer::WentOn => WORDS + 1,
+        Answer::Finished => WORDS + 2,
+        Answer::Yes => WORDS + 3,
+        Answer::No => WORDS + 4,
+        Answer::Idle => WORDS + 5,
+    }
+}
+
+pub fn turn_answer(reply: TurnReply) -> u64
+    ensures { λ r. ⌜ r ≡ turnAnswer reply ⌝ }
+{
+    match reply {
+        TurnReply::Answered(answer) => step_answer(answer),
+        TurnReply::Refused(why) => refusal_answer(why),
+    }
+}
+
+pub fn reply_answer(reply: Reply) -> u64
+    ensures { λ r. ⌜ r ≡ replyAnswer reply ⌝ }
+{
+    match reply {
+        Reply::Accepted => 0,
+        Reply::Refused(why) => refusal_answer(why),
+    }
+}
+
+// ---- a list of calls
+fn least(a: usize, b: usize) -> usize
+    ensures { λ r. ⌜ r ≡ min a b ⌝ }
+{
+    if a < b { a } else { b }
+}
+
+// As many as the shortest of four lists has.
+pub fn fewest(ops: usize, workers: usize, keys: usize, answers: usize) -> usize
+    ensures { λ r. ⌜ r ≡ min (min ops workers) (min keys answers) ⌝ }
+{
+    least(least(ops, workers), least(keys, answers))
+}
+
+// Applies calls from a phase on, as many as the shortest of the four lists has; `answers` takes their answers' numbers. Operation 1 is an order, 2
+// a turn, any other a close. Each call goes by itself: the phase by value, and tested at each.
+pub fn run_singly(
+    phase: Phase,
+    cells: &mut [u32],
+    ops: &[u32],
+    workers: &[u32],
+    keys: &[u32],
+    answers: &mut [u64],
+) -> Phase
+    ensures { λ r. ⌜ RunsFrom gateway phase (now (cells .entry)) (callsLent (now (ops .entry)) (now (workers .entry)) (now (keys .entry)) (now (answers .entry)))
+        (now (answers .entry)) r (now (cells .exit)) (now (answers .exit)) ⌝ }
+{
+    let all = fewest(ops.len(), workers.len(), keys.len(), answers.len());
+    let mut next = phase;
+    let mut i: usize = 0;
+    while i < all {
+        let op = ops[i];
+        let worker = workers[i] as usize;
+        let key = keys[i];
+        let place = i;
+        i += 1;
+        if op == 1 {
+            let ordered = order(next, worker, key);
+            next = ordered.phase;
+            let reply = ordered.reply;
+            answers[place] = reply_answer(reply);
+        } else if op == 2 {
+            let turned = turn(next, cells, worker);
+            next = turned.phase;
+            let reply = turned.reply;
+            answers[place] = turn_answer(reply);
+        } else {
+            let closed = close(next);
+            next = closed.phase;
+            let reply = closed.reply;
+            answers[place] = reply_answer(reply);
+        }
+    }
+    next
+}

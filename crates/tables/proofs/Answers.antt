@@ -1,0 +1,80 @@
+-- The calls' answers, by the tests that lead to them.
+use mathlib.Core.Path.{_≡_, sym, ap, _∙_}
+use mathlib.Core.Bool.{true, false, cond}
+use mathlib.Core.List.{List, [], _∷_}
+use Prim.Native.Nat.{ℕ, _≤_, _<_}
+use native.Mathlib.Omega.{arith}
+use lib.Dec.{ltb}
+use lib.ListN.{length, take, drop}
+use lib.Seq.{take-at}
+use borrow.Author.Tests.{lt-ltb, le-ltb, le-leb, lt-leb}
+use Rattle.layout.specs.Sound.{isSound}
+use Rattle.words.specs.Words.{occupied, keysOf, filled, countOf, listedIn}
+use Rattle.words.proofs.Theorem.{theorem}
+use Rattle.state.specs.Model.{Model, sizeOk}
+use Rattle.state.specs.Refusals.{Bar, if, firstOf}
+use Rattle.state.proofs.Sequence.{orElse, first-append}
+use Rattle.state.specs.declared.Refusal.the-variants.{Size, Unsound, ShortList}
+use Rattle.state.specs.declared.Reply.{Reply}
+use Rattle.state.specs.declared.Reply.the-variants.{Accepted, Refused}
+use Rattle.tables.specs.declared.Counted.{Counted}
+use Rattle.tables.specs.declared.Counted.the-variants as counted
+use Rattle.tables.specs.Calls.{countedBy, ifCounted, tableBars, checkCall, countCall, listBars, listCall, listAfter, listFront}
+
+-- an answer with a count has the sum of the ones
+is-count : (r : Reply) (x c : ℕ) → countedBy x r ≡ counted.Keys c → c ≡ x
+is-count Accepted x c e = cc
+is-count (Refused r) x c e = let z : _≡_ {A = ℕ} 0 1 = cc in omega arith
+
+module _ (M : Model) (t : List ℕ) where
+  pub size-refused : sizeOk M (length t) ≡ false → checkCall M t ≡ Refused Size
+  size-refused e = rw e
+
+  pub unsound-refused : sizeOk M (length t) ≡ true → isSound (length t) (M .home (length t)) t ≡ false → checkCall M t ≡ Refused Unsound
+  unsound-refused e s = rw (e, s)
+
+  pub sound-accepted : sizeOk M (length t) ≡ true → isSound (length t) (M .home (length t)) t ≡ true → checkCall M t ≡ Accepted
+  sound-accepted e s = rw (e, s)
+
+  pub count-by : (r : Reply) → checkCall M t ≡ r → countCall M t ≡ countedBy (countOf t) r
+  count-by r e = ap (countedBy (countOf t)) e
+
+  module _ (out : List ℕ) where
+    -- the answer fixes the lent list and its front part
+    module _ (a : Counted) (e : listCall M t out ≡ a) where
+      pub listed-as : (l : List ℕ) → l ≡ ifCounted a (filled t out) out → (a ≡ listCall M t out) × (l ≡ listAfter M t out)
+      listed-as l f = (sym e, f ∙ sym (ap (λ (a : Counted). ifCounted a (filled t out) out) e))
+
+      pub front-as : listFront M t out ≡ ifCounted a (keysOf t) []
+      front-as = ap (λ (a : Counted). ifCounted a (keysOf t) []) e
+
+    -- the check's refusals come first; where it accepts, the room decides
+    pub list-by : (r : Reply) → checkCall M t ≡ r
+        → listCall M t out ≡ countedBy (countOf t) (orElse r (cond (ltb (length out) (countOf t)) (Refused ShortList) Accepted))
+    list-by r e =
+        let room : List Bar = if (ltb (length out) (countOf t)) ShortList ∷ [] in
+        ap (countedBy (countOf t)) (first-append (tableBars M t) room ∙ ap (λ (a : Reply). orElse a (firstOf room)) e)
+
+    -- ---- after `list_keys` gave the count c and left the list l
+    module _ (ok : checkCall M t ≡ Accepted) (c : ℕ) (l : List ℕ) (count : c ≡ countOf t) (left : l ≡ listedIn t out) where
+      pub short : length out < c → (counted.Refused ShortList ≡ listCall M t out) × (l ≡ listAfter M t out)
+      short h =
+          let h′ : length out < countOf t = omega arith in
+          listed-as (counted.Refused ShortList) (list-by Accepted ok ∙ rw (lt-ltb (length out) (countOf t) h′)) l (left ∙ rw (lt-leb (countOf t) (length out) h′))
+
+      pub full : c ≤ length out → (counted.Keys c ≡ listCall M t out) × (l ≡ listAfter M t out)
+      full h =
+          let h′ : countOf t ≤ length out = omega arith in
+          listed-as (counted.Keys c) (list-by Accepted ok ∙ rw (le-ltb (length out) (countOf t) h′, count)) l (left ∙ rw (le-leb (countOf t) (length out) h′))
+
+    -- ---- where the list call gave the count c and left the list l, its first c places are the keys
+    module _ (c : ℕ) (l : List ℕ) (e : listCall M t out ≡ counted.Keys c) (left : l ≡ listAfter M t out) where
+      counts : c ≡ length (keysOf t)
+      counts = is-count (firstOf (listBars M t out)) (countOf t) c e ∙ theorem t .count ∙ sym (theorem t .long)
+
+      pub front : take c l ≡ listFront M t out
+      front =
+          ap (take c) (left ∙ ap (λ (a : Counted). ifCounted a (filled t out) out) e) ∙ take-at (keysOf t) (drop (occupied t) out) c (sym counts) ∙ sym (front-as (counted.Keys c) e)
+
+      pub front-length : c ≡ length (take c l)
+      front-length = counts ∙ sym (ap length (front ∙ front-as (counted.Keys c) e))

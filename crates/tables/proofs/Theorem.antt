@@ -1,0 +1,115 @@
+-- What check, count and list promise.
+use mathlib.Core.Path.{_≡_, refl, sym, ap, _∙_}
+use mathlib.Core.Logic.{_≢_}
+use mathlib.Core.List.{List, [], _∷_, _++_}
+use Prim.Native.Nat.{ℕ, _≤_, _<_}
+use native.Mathlib.Omega.{arith}
+use lib.Dec.{ltb}
+use lib.ListN.{length, drop}
+use borrow.Author.Tests.{ltb-true, ltb-false, le-ltb}
+use Rattle.ring.proofs.Tests.{within-says}
+use Rattle.layout.specs.Layout.{size}
+use Rattle.words.specs.Words.{keysOf, filled, countOf}
+use Rattle.words.proofs.Theorem.{theorem as listing}
+use Rattle.state.specs.Model.{Model, Proper}
+use Rattle.state.specs.Refusals.{replyNumber, firstOf}
+use Rattle.state.specs.declared.Refusal.the-variants.{ShortList}
+use Rattle.state.specs.declared.Reply.{Reply}
+use Rattle.state.specs.declared.Reply.the-variants.{Accepted, Refused}
+use Rattle.protocol.specs.Cases.{Decides}
+use Rattle.protocol.proofs.Calls.{sound-says, sizeSteps, soundSteps}
+use Rattle.protocol.proofs.Chain.{Step, casesOf, decides}
+use Rattle.tables.specs.declared.Counted.{Counted}
+use Rattle.tables.specs.declared.Counted.the-variants as counted
+use Rattle.tables.specs.Calls.{countNumber, countValue, countedBy, ifCounted, checkCall, countCall, listBars, listCall}
+use Rattle.tables.specs.Promise.{Usable, listCases, AtRest, AtRestPromise}
+
+-- ---- by the form of an answer
+count-number : (x : ℕ) (r : Reply) → countNumber (countedBy x r) ≡ replyNumber r
+count-number x Accepted = refl
+count-number x (Refused r) = refl
+
+kept : (a : Counted) (x y : List ℕ) → countNumber a ≢ 0 → ifCounted a x y ≡ y
+kept (counted.Keys c) x y h = absurd (h refl)
+kept (counted.Refused r) x y h = refl
+
+module _ (M : Model) (proper : Proper M) (t : List ℕ) where
+  -- a table that the check accepts has as many ones as keys
+  counts : Usable M t → countOf t ≡ size t
+  counts (sized, sound) = listing t .number (length t) (M .home (length t)) (λ x. proper .homes (length t) x (omega (arith, proper .some))) sound
+
+  count-true : Usable M t → countValue (countCall M t) ≡ size t
+  count-true (sized, sound) =
+      let e : checkCall M t ≡ Accepted = rw (within-says _ _ _ .1 sized, sound-says _ _ _ .1 sound) in
+      ap (λ (r : Reply). countValue (countedBy (countOf t) r)) e ∙ counts (sized, sound)
+
+  module _ (out : List ℕ) where
+    abbrev listSteps : List Step
+    listSteps =
+        sizeSteps M t
+        ++ soundSteps M t
+        ++ record {
+          when = ltb (length out) (countOf t);
+          why = ShortList;
+          passes = countOf t ≤ length out;
+          applies = length out < countOf t;
+          if-true = ltb-true (length out) (countOf t);
+          if-false = ltb-false (length out) (countOf t);
+          apart = λ h l. omega arith;
+        }
+        ∷ []
+
+    abbrev number : ℕ
+    number = countNumber (listCall M t out)
+
+    by-tests : Decides number (casesOf listSteps)
+    by-tests = decides listSteps refl number (count-number (countOf t) (firstOf (listBars M t out)))
+
+    list : Decides number (listCases M t out)
+    list =
+        let (one, (four, (twelve, none))) = by-tests in (
+          one,
+          (
+            four,
+            (
+              (
+                λ e. let (b, l) = twelve .0 e in (b, omega (arith, counts (b .0 .1, b .1))),
+                λ (b, l). twelve .1 (b, omega (arith, counts (b .0 .1, b .1))),
+              ),
+              (
+                λ e. let (b, l) = none .0 e in (b, omega (arith, counts (b .0 .1, b .1))),
+                λ (b, l). none .1 (b, omega (arith, counts (b .0 .1, b .1))),
+              ),
+            ),
+          ),
+        )
+
+    -- a list call that is not refused
+    module _ (z : number ≡ 0) where
+      full : listCall M t out ≡ counted.Keys (countOf t)
+      full =
+          let (_, (_, (_, none))) = by-tests in
+          let (((_, sized), sound), l) = none .0 z in
+          rw (within-says _ _ _ .1 sized, sound-says _ _ _ .1 sound, le-ltb (length out) (countOf t) l)
+
+      is-size : countOf t ≡ size t
+      is-size = let (_, (_, (_, none))) = by-tests in let (b, _) = none .0 z in counts (b .0 .1, b .1)
+
+    at-rest : AtRest M t out
+    at-rest =
+        record {
+          check = decides (sizeSteps M t ++ soundSteps M t) refl (replyNumber (checkCall M t)) refl;
+          count-refused = count-number (countOf t) (checkCall M t);
+          count-true = count-true;
+          list = list;
+          list-true = λ z. ap countValue (full z) ∙ is-size z;
+          listed = λ z.
+              ap (λ (a : Counted). ifCounted a (filled t out) out) (full z)
+              ∙ ap (λ (c : ℕ). keysOf t ++ drop c out) (sym (listing t .count) ∙ is-size z);
+          unlisted = kept (listCall M t out) (filled t out) out;
+          front = λ z. ap (λ (a : Counted). ifCounted a (keysOf t) []) (full z);
+          no-front = kept (listCall M t out) (keysOf t) [];
+        }
+
+pub theorem : AtRestPromise
+theorem = at-rest

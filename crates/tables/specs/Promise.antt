@@ -1,0 +1,45 @@
+-- What is promised of check, count and list, for every table, list and model. Proved in proofs/Theorem.
+use mathlib.Core.Path.{_≡_}
+use mathlib.Core.Logic.{_≢_}
+use mathlib.Core.List.{List, [], _∷_, _++_}
+use Prim.Native.Nat.{ℕ, _≤_, _<_}
+use lib.ListN.{length, drop}
+use Rattle.layout.specs.Layout.{size}
+use Rattle.words.specs.Words.{keysOf}
+use Rattle.state.specs.Model.{Model, Proper}
+use Rattle.state.specs.Refusals.{replyNumber}
+use Rattle.protocol.specs.Cases.{Case, case, Decides}
+use Rattle.protocol.specs.Promise.{SoundTable, sizeCases, soundCases}
+use Rattle.protocol.specs.WellFormed.{Size}
+use Rattle.tables.specs.Calls.{countNumber, countValue, checkCall, countCall, listCall, listAfter, listFront}
+
+module _ (M : Model) (t : List ℕ) where
+  -- a table that every call accepts
+  abbrev pub Usable : Type 0
+  Usable = Size M (length t) × SoundTable M t
+
+  abbrev pub checkCases : List Case
+  checkCases = sizeCases M t ++ soundCases M t
+
+  module _ (out : List ℕ) where
+    -- the check's, then a lent list with fewer places than the table has keys
+    abbrev pub listCases : List Case
+    listCases = checkCases ++ case 12 (size t ≤ length out) (length out < size t) ∷ []
+
+    pub record AtRest : Type 0 where
+      -- the check passes the sound tables and no others
+      pub check : Decides (replyNumber (checkCall M t)) checkCases
+      -- count is refused as the check is, and otherwise says how many keys the table has
+      pub count-refused : countNumber (countCall M t) ≡ replyNumber (checkCall M t)
+      pub count-true : Usable → countValue (countCall M t) ≡ size t
+      pub list : Decides (countNumber (listCall M t out)) listCases
+      -- it lists the keys in cell order, and what stands behind them is kept; a refusal changes nothing
+      pub list-true : countNumber (listCall M t out) ≡ 0 → countValue (listCall M t out) ≡ size t
+      pub listed : countNumber (listCall M t out) ≡ 0 → listAfter M t out ≡ keysOf t ++ drop (size t) out
+      pub unlisted : countNumber (listCall M t out) ≢ 0 → listAfter M t out ≡ out
+      -- the front part is the keys in cell order, and empty where listing is refused
+      pub front : countNumber (listCall M t out) ≡ 0 → listFront M t out ≡ keysOf t
+      pub no-front : countNumber (listCall M t out) ≢ 0 → listFront M t out ≡ []
+
+abbrev pub AtRestPromise : Type 0
+AtRestPromise = (M : Model) → Proper M → (t out : List ℕ) → AtRest M t out

@@ -1,0 +1,68 @@
+-- Laws of occupancy words, and of the keys of a list of cells.
+use mathlib.Core.Path.{_≡_, refl, _∙_, ap}
+use mathlib.Core.Bool.{Bool, true, false, cond}
+use mathlib.Core.List.{List, [], _∷_, _++_}
+use Prim.Native.Nat.{ℕ, zero, suc, _+_, _/_, _%_, _^_, _≤_, _<_}
+use native.Mathlib.Omega.{arith}
+use native.Mathlib.Nat.{pow-suc}
+use native.Mathlib.Numerals.{one-add}
+use lib.Count.{ones, ones-step}
+use lib.Dec.{eqb}
+use lib.ListN.{length, getD}
+use lib.Pow.{shr-le, shr-shr}
+use Rattle.words.specs.Words.{taken, occupied, keysOf, wordOf}
+
+pub taken-le : (x : ℕ) → taken x ≤ 1
+taken-le x = go (eqb x 0)
+  where
+    go : (b : Bool) → cond b 0 1 ≤ 1
+    go true = omega arith
+    go false = omega arith
+
+-- ---- words
+pub word-lt : (xs : List ℕ) → wordOf xs < 2 ^ length xs
+word-lt [] = omega arith
+word-lt (x ∷ xs) = rw pow-suc (omega (arith, word-lt xs, taken-le x))
+
+module _ (x : ℕ) (xs : List ℕ) where
+  -- the lowest bit, and the word of the cells above it
+  word-low : wordOf (x ∷ xs) % 2 ≡ taken x
+  word-low = omega (arith, taken-le x)
+
+  word-high : wordOf (x ∷ xs) / 2 ≡ wordOf xs
+  word-high = omega (arith, taken-le x)
+
+pub ones-word : (xs : List ℕ) → ones (wordOf xs) ≡ occupied xs
+unfolding ones
+ones-word [] = refl
+ones-word (x ∷ xs) = ones-step (wordOf (x ∷ xs)) ∙ rw (word-high x xs, word-low x xs) (omega (arith, ones-word xs))
+
+pub word-bit : (xs : List ℕ) (b : ℕ) → (wordOf xs / 2 ^ b) % 2 ≡ taken (getD xs b 0)
+word-bit [] b = omega (arith, shr-le 0 b)
+word-bit (x ∷ xs) zero = omega (arith, taken-le x)
+word-bit (x ∷ xs) (suc b) = rw (← one-add b, ← shr-shr (wordOf (x ∷ xs)) 1 b, word-high x xs) (word-bit xs b)
+
+-- ---- keys
+pub occupied-append : (xs ys : List ℕ) → occupied (xs ++ ys) ≡ occupied xs + occupied ys
+occupied-append [] ys = omega arith
+occupied-append (x ∷ xs) ys = omega (arith, occupied-append xs ys)
+
+pub occupied-le : (xs : List ℕ) → occupied xs ≤ length xs
+occupied-le [] = omega arith
+occupied-le (x ∷ xs) = omega (arith, taken-le x, occupied-le xs)
+
+pub keys-append : (xs ys : List ℕ) → keysOf (xs ++ ys) ≡ keysOf xs ++ keysOf ys
+keys-append [] ys = refl
+keys-append (x ∷ xs) ys = go (keys-append xs ys) (eqb x 0)
+  where
+    go : keysOf (xs ++ ys) ≡ keysOf xs ++ keysOf ys → (b : Bool) → cond b (keysOf (xs ++ ys)) (x ∷ keysOf (xs ++ ys)) ≡ cond b (keysOf xs) (x ∷ keysOf xs) ++ keysOf ys
+    go e true = e
+    go e false = ap (λ (l : List ℕ). x ∷ l) e
+
+pub length-keys : (xs : List ℕ) → length (keysOf xs) ≡ occupied xs
+length-keys [] = refl
+length-keys (x ∷ xs) = go (length-keys xs) (eqb x 0)
+  where
+    go : length (keysOf xs) ≡ occupied xs → (b : Bool) → length (cond b (keysOf xs) (x ∷ keysOf xs)) ≡ cond b 0 1 + occupied xs
+    go e true = omega arith
+    go e false = omega arith
