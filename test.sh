@@ -5,6 +5,8 @@ set -u -o pipefail
 cd "$(dirname "$0")" || exit 1
 log=$(mktemp) || exit 1
 trap 'rm -f "$log"' EXIT
+# rt waits for all jobs of a group before it starts the next ones: with more jobs than processors none of those stands idle
+export RT_JOBS="${RT_JOBS:-4}"
 rt ci 2>&1 | tee "$log" || exit 1
 last=$(tail -n 1 "$log")
 case $last in

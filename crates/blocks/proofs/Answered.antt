@@ -9,8 +9,8 @@ use lib.Seq.{sets, sets-eq, take-at, take-append-seam, length-take-le, length-se
 use Rattle.lines.specs.Grammar.{readingOf}
 use Rattle.lines.specs.declared.Line.{Line}
 use Rattle.sheet.specs.Replay.{State, Answer, answerOf, rendered, longestAnswer}
-use Rattle.sheet.specs.Store.{stateOf, Answers}
-use Rattle.sheet.specs.declared.Answered.{Answered}
+use Rattle.answering.specs.Store.{stateOf, Answers}
+use Rattle.answering.specs.declared.Answered.{Answered}
 use Rattle.feed.specs.Feed.{lastOutput}
 use Rattle.feed.proofs.WholeSheet.{last-none, last-some}
 use Rattle.blocks.specs.declared.Carried.{Carried}

@@ -15,8 +15,8 @@ use Rattle.lines.specs.declared.Line.{Line}
 use Rattle.text.proofs.Bytes.{byte-le}
 use Rattle.text.proofs.Test.{by-test}
 use Rattle.sheet.specs.Replay.{State, Answer, answerOf, rendered, longestAnswer}
-use Rattle.sheet.specs.Store.{stateOf, Answers}
-use Rattle.sheet.specs.declared.Answered.{Answered}
+use Rattle.answering.specs.Store.{stateOf, Answers}
+use Rattle.answering.specs.declared.Answered.{Answered}
 use Rattle.feed.specs.Feed.{Kept, answerTo, behindLine, fed, printed}
 use Rattle.feed.specs.Promise.{Plain}
 use Rattle.feed.proofs.Lines.{withLine, fed-plain, printed-plain, line-fed, line-printed}

@@ -6,7 +6,7 @@ use Prim.Native.Nat.{ℕ, _+_, _^_, _≤_, _<_}
 use lib.ListN.{length, take}
 use Rattle.lines.specs.Grammar.{keptBytes}
 use Rattle.sheet.specs.Replay.{mostSheetCells}
-use Rattle.sheet.specs.Store.{stateOf, Ready}
+use Rattle.answering.specs.Store.{stateOf, Ready}
 use Rattle.feed.specs.Feed.{Kept, begin, fed, printed}
 use Rattle.blocks.specs.declared.Carried.{Carried}
 use Rattle.blocks.specs.declared.Filled.{Filled}

@@ -1,6 +1,6 @@
 // A block of the shift sheet: its lines read where they lie and answered into a buffer. Nothing is read from or written to the system here.
+use answering::Replay;
 use fitting::Aim;
-use sheet::Replay;
 ghost use mathlib.Core.Path.{_≡_};
 ghost use Prim.Native.Nat.{_≤_, _<_};
 ghost use lib.ListN.{length, take};
@@ -28,7 +28,7 @@ pub struct Filled {
 pub fn start() -> Carried
     ensures { λ r. ⌜ Begins r ⌝ }
 {
-    let replay = sheet::start();
+    let replay = answering::start();
     Carried {
         replay,
         number: 0,
@@ -72,7 +72,7 @@ pub fn fill(
                 at,
             };
         }
-        let end = from + text::byte_at(&block[from..], b'\n');
+        let end = from + scanning::byte_at(&block[from..], b'\n');
         if block.len() <= end {
             let n = gathering::gather(&block[from..], line, len);
             return Filled {
@@ -93,11 +93,11 @@ pub fn fill(
         let read = gathering::read_end(&block[from..end], line, len);
         len = 0;
         from = end + 1;
-        let aim = fitting::aim_of(phase.kind, phase.shut, read, phase.crew);
+        let aim = dispatching::aim_of(phase.kind, phase.shut, read, phase.crew);
         match aim {
             Aim::Order(worker, key) => {
                 let w = worker as usize;
-                let ordered = sheet::answer_order(
+                let ordered = answering::answer_order(
                     phase.kind,
                     phase.length,
                     phase.left,
@@ -114,7 +114,7 @@ pub fn fill(
             }
             Aim::Turn(worker) => {
                 let w = worker as usize;
-                let stepped = sheet::answer_turn(
+                let stepped = answering::answer_turn(
                     phase.kind,
                     phase.length,
                     phase.workers[w],
@@ -129,7 +129,7 @@ pub fn fill(
                 at = stepped.at;
             }
             Aim::Other => {
-                let answered = sheet::answer(
+                let answered = answering::answer(
                     Replay {
                         phase,
                         length: size,
@@ -185,7 +185,7 @@ pub fn last_line(carried: Carried, line: &[u8], cells: &mut [u32], out: &mut [u8
         return 0;
     }
     let replay = carried.replay;
-    let read = lines::read_line(&line[..len]);
-    let answered = sheet::answer(replay, carried.number + 1, read, cells, out, 0);
+    let read = parsing::read_line(&line[..len]);
+    let answered = answering::answer(replay, carried.number + 1, read, cells, out, 0);
     answered.at
 }

@@ -10,7 +10,6 @@ use lib.Seq.{set-getD}
 use Rattle.state.specs.Model.{Model, Proper}
 use Rattle.activities.specs.Activities.{idle, activityOk, isIdle}
 use Rattle.activities.specs.declared.Activity.the-variants.{Idle}
-use Rattle.state.specs.declared.Phase.{Phase}
 use Rattle.activities.proofs.Activities.{idle-says}
 use Rattle.protocol.specs.Bars.{doing}
 use Rattle.protocol.specs.Calls.{withWorker}
@@ -21,7 +20,7 @@ use Rattle.protocol.proofs.WellFormed.{good-worker}
 use Rattle.dealing.specs.declared.Finish.{Finish}
 use Rattle.dealing.specs.Reached.{From, Reached}
 use Rattle.dealing.specs.Deal.{Dealing, unfinished, finishAfter, dealTo, deal, lap}
-use Rattle.dealing.proofs.Reached.{passed, formed, sized, crew, accepts}
+use Rattle.dealing.proofs.Reached.{formed, sized, crew, few-workers, accepts}
 use Rattle.dealing.proofs.Settling.{Opened, deal-opened}
 
 -- worker w after its turn, with the rest as it was
@@ -65,9 +64,6 @@ module _ (M : Model) (proper : Proper M) where
         let a : doing p w ≡ Idle = idle-says (doing p w) .0 free in
         rw (ok, a, set-getD)
 
-  few-workers : (k m : ℕ) (t : List ℕ) (p : Phase) (u : List ℕ) → From M k m t p u → p .crew ≤ M .room
-  few-workers k m t p u h = omega (arith, proper .places, crew M proper k m t p u h, passed M proper k m t p u h .1)
-
   module _ (d₀ : Dealing) (count : ℕ) where
     pub lap-starts : Reached M (d₀ .dealt .phase) (d₀ .table) → d₀ .dealt .phase .shut ≡ false → count ≡ d₀ .dealt .phase .crew → Lapping M d₀ count d₀ 0
     unfolding deal
@@ -75,7 +71,7 @@ module _ (M : Model) (proper : Proper M) where
       reached = h;
       running = up;
       all = e;
-      few = omega (arith, few-workers (h .kind) (h .crew) (h .opened) (d₀ .dealt .phase) (d₀ .table) (h .by));
+      few = omega (arith, few-workers M proper (h .kind) (h .crew) (h .opened) (d₀ .dealt .phase) (d₀ .table) (h .by));
       within = omega arith;
       same = refl;
     }

@@ -1,4 +1,8 @@
-pub mod Reached
+pub mod Answers
+pub mod Finishes
 pub mod Lapping
 pub mod Laps
+pub mod Reached
+pub mod Rounds
 pub mod Settling
+pub mod Theorem

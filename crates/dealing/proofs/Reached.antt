@@ -1,17 +1,17 @@
 -- What holds of a phase state and a table that calls lead to, and that further calls lead on.
-use mathlib.Core.Path.{_≡_, refl, sym, _∙_}
+use mathlib.Core.Path.{_≡_, sym, _∙_}
 use mathlib.Core.Bool.{true, false}
 use mathlib.Core.List.{List, [], _∷_, _++_}
-use Prim.Native.Nat.{ℕ, _<_}
+use Prim.Native.Nat.{ℕ, _≤_, _<_}
 use native.Mathlib.Omega.{arith}
 use lib.ListN.{length}
 use borrow.Author.Tests.{eq-eqb, lt-leb}
 use Rattle.rule.specs.Events as events
 use Rattle.rule.specs.Events.{Event}
-use Rattle.determinism.proofs.Theorem.{phases}
-use Rattle.history.specs.History.{Call, order, turn, close, History, afterOrder, afterTurn, call, opening, after}
+use Rattle.history.specs.History.{Call, order, turn, close, History, call, opening, after}
+use Rattle.history.specs.Promise.{Claim}
+use Rattle.history.proofs.Keeping.{order-phase, order-table, turn-phase, turn-table, close-phase, close-table}
 use Rattle.history.proofs.Lists.{run-last}
-use Rattle.history.proofs.Claim.{known}
 use Rattle.history.proofs.Opening.{opening-shows}
 use Rattle.history.proofs.Simulation.{Shows, simulates}
 use Rattle.history.proofs.Theorem.{history as all-lists}
@@ -20,38 +20,33 @@ use Rattle.protocol.specs.WellFormed.{Size, Crew, Kind}
 use Rattle.protocol.proofs.Theorem.{open-passed}
 use Rattle.state.specs.Model.{Model, Proper}
 use Rattle.state.specs.declared.Phase.{Phase}
-use Rattle.state.specs.declared.Reply.{Reply}
-use Rattle.state.specs.declared.Reply.the-variants.{Accepted, Refused}
+use Rattle.state.specs.declared.Reply.the-variants.{Accepted}
 use Rattle.protocol.specs.Calls.{closeCall, orderCall, turnCheck, turnCall, turnTable}
 use Rattle.protocol.specs.IsWellFormed.{isWellFormed}
-use Rattle.protocol.specs.declared.TurnReply.{TurnReply}
-use Rattle.protocol.specs.declared.TurnReply.the-variants as turnReply
 use Rattle.dealing.specs.Reached.{From}
 
 module _ (M : Model) (proper : Proper M) where
   -- ---- what a call leaves
-  after-one : (k m : ℕ) (t : List ℕ) (cs : List Call) (c : Call) → after M k m t (cs ++ c ∷ []) ≡ call M c (after M k m t cs)
+  pub after-one : (k m : ℕ) (t : List ℕ) (cs : List Call) (c : Call) → after M k m t (cs ++ c ∷ []) ≡ call M c (after M k m t cs)
   after-one k m t cs c = run-last M cs c (opening M k m t)
 
-  -- an order and a turn change the phase state and the table as their calls say, whatever they answer
-  order-says : (w v : ℕ) (p : Phase) (a : Reply) (s : History) → (p ≡ afterOrder w v p a s .phase) × (s .table ≡ afterOrder w v p a s .table)
-  order-says w v p Accepted s = (refl, refl)
-  order-says w v p (Refused r) s = (refl, refl)
-
-  turn-says : (w : ℕ) (t : List ℕ) (p : Phase) (a : TurnReply) (s : History) → (p ≡ afterTurn w t p a s .phase) × (t ≡ afterTurn w t p a s .table)
-  turn-says w t p (turnReply.Answered a) s = (refl, refl)
-  turn-says w t p (turnReply.Refused r) s = (refl, refl)
-
+  -- the calls change the phase state and the table as they say, whatever they answer
   order-leaves : (w v : ℕ) (s : History)
       → (orderCall M (s .phase) w v .phase ≡ call M (order w v) s .phase) × (s .table ≡ call M (order w v) s .table)
   unfolding call
-  order-leaves w v s = let r = orderCall M (s .phase) w v in order-says w v (r .phase) (r .reply) s
+  order-leaves w v s =
+      let r = orderCall M (s .phase) w v in (sym (order-phase w v (r .phase) (r .reply) s), sym (order-table w v (r .phase) (r .reply) s))
 
   pub turn-leaves : (w : ℕ) (s : History) → (turnCall M (s .phase) (s .table) w .phase ≡ call M (turn w) s .phase)
       × (turnTable M (s .phase) (s .table) w ≡ call M (turn w) s .table)
   unfolding call
   turn-leaves w s =
-      let r = turnCall M (s .phase) (s .table) w in turn-says w (turnTable M (s .phase) (s .table) w) (r .phase) (r .reply) s
+      let r = turnCall M (s .phase) (s .table) w in
+      let t = turnTable M (s .phase) (s .table) w in (sym (turn-phase w t (r .phase) (r .reply) s), sym (turn-table w t (r .phase) (r .reply) s))
+
+  close-leaves : (s : History) → (closeCall M (s .phase) .phase ≡ call M close s .phase) × (s .table ≡ call M close s .table)
+  unfolding call
+  close-leaves s = let r = closeCall M (s .phase) in (sym (close-phase (r .phase) (r .reply) s), sym (close-table (r .phase) (r .reply) s))
 
   module _ (k m : ℕ) (t : List ℕ) (p : Phase) (u : List ℕ) (h : From M k m t p u) where
     -- ---- what holds
@@ -68,21 +63,26 @@ module _ (M : Model) (proper : Proper M) where
     shown = simulates M k (length t) m (h .calls) (opening M k m t) (events.opened k m t)
         (opening-shows M proper k m t (h .accepted))
 
+    claim : Claim M k m t (h .calls)
+    claim = all-lists M proper k m t (h .accepted) (h .calls)
+
     pub formed : isWellFormed M p ≡ true
-    formed = rw (h .phase) (all-lists M proper k m t (h .accepted) (h .calls) .formed)
+    formed = rw (h .phase) (claim .formed)
+
+    pub kind : p .kind ≡ k
+    kind = rw (h .phase) (shown .1 .kind)
 
     pub cells : p .length ≡ length t
-    cells = rw (h .phase) (shown .1 .cells)
+    cells = rw (h .phase) (claim .numbers .cells)
 
     pub crew : p .crew ≡ m
-    crew = rw (h .phase) (shown .1 .count)
+    crew = rw (h .phase) (claim .numbers .crew)
+
+    pub few-workers : p .crew ≤ M .room
+    few-workers = omega (arith, proper .places, crew, passed .1)
 
     pub sized : p .length ≡ length u
-    sized =
-        let es = shown .0 in
-        let always = known k (length t) m (M .home (length t)) t es (passed .2)
-        (phases (length t) m (M .home (length t)) homes t (passed .3) es) .always in
-        cells ∙ sym (rw (h .table, shown .1 .table) (always .sized))
+    sized = rw (h .table) (cells ∙ sym (claim .numbers .sized))
 
     pub accepts : (w : ℕ) → p .shut ≡ false → w < p .crew → turnCheck M p u w ≡ Accepted
     accepts w up l = simp (formed, up, eq-eqb _ _ sized, lt-leb _ _ l)
@@ -97,7 +97,7 @@ module _ (M : Model) (proper : Proper M) where
           table = rw (after-one, h .table) (order-leaves w v history .1);
         }
 
-    pub turn-from : (w : ℕ) → From M k m t (turnCall M p u w .phase) (turnTable M p u w)
+    unfoldable pub turn-from : (w : ℕ) → From M k m t (turnCall M p u w .phase) (turnTable M p u w)
     turn-from w =
         record {
           calls = h .calls ++ turn w ∷ [];
@@ -107,5 +107,10 @@ module _ (M : Model) (proper : Proper M) where
         }
 
     pub close-from : From M k m t (closeCall M p .phase) u
-    unfolding call
-    close-from = record { calls = h .calls ++ close ∷ []; accepted = h .accepted; phase = rw (after-one, h .phase); table = rw (after-one, h .table) }
+    close-from =
+        record {
+          calls = h .calls ++ close ∷ [];
+          accepted = h .accepted;
+          phase = rw (after-one, h .phase) (close-leaves history .0);
+          table = rw (after-one, h .table) (close-leaves history .1);
+        }

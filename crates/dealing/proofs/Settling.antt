@@ -1,7 +1,7 @@
 -- A run comes to its end: its turns are the steps of laps of events, after enough of which all workers are idle.
 use mathlib.Core.Path.{_≡_, refl, sym, _∙_, subst, ap}
 use mathlib.Core.Logic.{_⊎_, inl, inr}
-use mathlib.Core.Bool.{Bool, true, false}
+use mathlib.Core.Bool.{true, false}
 use mathlib.Core.List.{List}
 use Prim.Native.Nat.{ℕ, zero, suc, _≤_, _<_}
 use native.Mathlib.Omega.{arith}
@@ -18,21 +18,20 @@ use Rattle.history.specs.History.{History, turn, call, after}
 use Rattle.history.proofs.Opening.{by-kinds}
 use Rattle.protocol.specs.WellFormed.{Kind}
 use Rattle.protocol.proofs.Chain.{by-reply}
+use Rattle.protocol.proofs.Theorem.{turns}
 use Rattle.protocol.proofs.WellFormed.{all-idle-says}
 use Rattle.state.specs.declared.Reply.{Reply}
 use Rattle.history.proofs.Simulation.{Shows, turn-shows}
 use Rattle.state.specs.Model.{Model, Proper}
-use Rattle.activities.specs.Activities.{idle}
 use Rattle.state.specs.declared.Phase.{Phase}
 use Rattle.state.specs.declared.Reply.the-variants.{Accepted}
 use Rattle.rule.specs.declared.Place.{Place}
 use Rattle.rule.specs.declared.Place.the-variants.{Nowhere, At}
 use Rattle.rule.specs.Rule.{touched}
 use Rattle.protocol.specs.Bars.{doing}
-use Rattle.protocol.specs.Calls.{movedAt, cellsAt, turned, turnedCells, turnCheck, turnCall, turnTable}
+use Rattle.protocol.specs.Calls.{cellsAt, turnedCells, turnCheck, turnCall, turnTable}
 use Rattle.dealing.specs.Reached.{From, Reached}
 use Rattle.dealing.specs.Deal.{Dealing, begun, dealTo, deal, lap, laps, enough, run}
-use Rattle.dealing.specs.Promise.{RunPromise}
 use Rattle.dealing.proofs.Reached.{passed, homes, shown, cells, crew, accepts, turn-from, turn-leaves}
 use Rattle.dealing.proofs.Laps.{atRest, left, left-falls, left-stays, laps-stay, laps-at-rest, rests-within}
 
@@ -52,17 +51,11 @@ pub record Going (M : Model) (p : Phase) (u : List ℕ) (d : Dealing) : Type 0 w
 
 module _ (M : Model) (proper : Proper M) where
   -- ---- a turn leaves the phase open or shut as it was
-  moved-shut : (p : Phase) (t : List ℕ) (w : ℕ) (q : Place) → movedAt M p t w q .phase .shut ≡ p .shut
-  moved-shut p t w Nowhere = refl
-  moved-shut p t w (At c) = refl
-
   pub turn-shut : (p : Phase) (t : List ℕ) (w : ℕ) → turnCall M p t w .phase .shut ≡ p .shut
-  turn-shut p t w =
-      let shut : Reply → Bool = λ a. turned M p t w a .phase .shut in
-      by-reply (turnCheck M p t w) (λ e. ap shut e ∙ moved-shut p t w (touched (doing p w))) (λ _ e. ap shut e)
+  turn-shut p t w = turns M p t w .others .shut
 
   module _ (k m : ℕ) (t : List ℕ) where
-    deal-to-opened : (w : ℕ) (d : Dealing) → Opened M k m t d → Opened M k m t (dealTo M w d)
+    pub deal-to-opened : (w : ℕ) (d : Dealing) → Opened M k m t d → Opened M k m t (dealTo M w d)
     unfolding dealTo
     deal-to-opened w d o =
         record {
@@ -222,6 +215,6 @@ module _ (M : Model) (proper : Proper M) where
   pub run-length : (p : Phase) (u : List ℕ) → length (run M p u .table) ≡ length u
   run-length p u = laps-length (enough p) (begun M p u)
 
--- ---- all workers are idle where a run ends
-pub run-promise : RunPromise
-run-promise M proper p t h up = rests-within M (enough p) (begun M p t) (few-laps M proper (h .kind) (h .crew) (h .opened) p t (h .by) up)
+  -- ---- all workers are idle where a run ends
+  pub run-rests : (p : Phase) (u : List ℕ) → Reached M p u → p .shut ≡ false → atRest (run M p u) ≡ true
+  run-rests p u h up = rests-within M (enough p) (begun M p u) (few-laps (h .kind) (h .crew) (h .opened) p u (h .by) up)

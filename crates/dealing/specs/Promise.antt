@@ -1,14 +1,64 @@
--- What is promised of the line `run`. Proved in proofs/Settling.
+-- What is promised of the line `run`, in document 01's words and without the definition's parts. Proved in proofs/Theorem.
 use mathlib.Core.Path.{_≡_}
+use mathlib.Core.Logic.{_≢_, _↔_, _⊎_}
 use mathlib.Core.Bool.{true, false}
-use mathlib.Core.List.{List}
-use Prim.Native.Nat.{ℕ}
+use mathlib.Core.List.{List, [], _∷_}
+use Prim.Native.Nat.{ℕ, zero, suc}
+use lib.ListN.{length, getD}
+use Rattle.layout.specs.Layout.{In}
+use Rattle.activities.specs.Activities.{keyOf}
+use Rattle.activities.specs.declared.Activity.the-variants.{Idle}
 use Rattle.state.specs.Model.{Model, Proper}
 use Rattle.state.specs.declared.Phase.{Phase}
-use Rattle.protocol.specs.Bars.{allIdle}
+use Rattle.protocol.specs.Bars.{doing, allIdle}
+use Rattle.protocol.specs.Promise.{Framed}
+use Rattle.history.specs.History as history
+use Rattle.history.specs.History.{Call, turn, History}
 use Rattle.dealing.specs.Reached.{Reached}
-use Rattle.dealing.specs.Deal.{run}
+use Rattle.dealing.specs.Deal.{Dealing, unfinished, lap, run}
+use Rattle.dealing.specs.declared.Ended.{Ended}
 
--- turns are dealt until all workers are idle
+-- turn calls of workers 0, 1 and so on below m, put before further calls; and so many rounds of them
+abbrev pub round : ℕ → List Call → List Call
+round zero cs = cs
+round (suc w) cs = round w (turn w ∷ cs)
+
+abbrev pub rounds : ℕ → ℕ → List Call
+rounds m zero = []
+rounds m (suc r) = round m (rounds m r)
+
+-- the finish of worker w
+abbrev pub finishOf : Dealing → ℕ → Ended
+finishOf d w = getD (d .dealt .finishes) w unfinished .ended
+
+-- ---- d is what a run leaves that begins with the phase p and the table t
+pub record Runs (M : Model) (p : Phase) (t : List ℕ) (d : Dealing) : Type 0 where
+  -- until all are idle
+  pub idle : (w : ℕ) → doing (d .dealt .phase) w ≡ Idle
+  pub all-idle : allIdle (d .dealt .phase .workers) ≡ true
+  -- one field per worker: `-` (nothing) exactly if idle before
+  pub none : (w : ℕ) → (finishOf d w ≡ Ended.Nothing) ↔ (doing p w ≡ Idle)
+  -- else its finish: finished; in a find phase yes or no, and yes exactly if its key is in the table
+  pub finished : (w : ℕ) → doing p w ≢ Idle → p .kind ≢ 3 → finishOf d w ≡ Ended.Finished
+  pub answered : (w : ℕ) → doing p w ≢ Idle → p .kind ≡ 3 → (finishOf d w ≡ Ended.Yes) ⊎ (finishOf d w ≡ Ended.No)
+  pub right : (w : ℕ) → doing p w ≢ Idle → p .kind ≡ 3 → (finishOf d w ≡ Ended.Yes) ↔ In (keyOf (doing p w)) t
+  pub places : length (d .dealt .finishes) ≡ M .room
+  -- by turns alone, in rounds of all workers
+  pub dealt : (r : ℕ) × ((s : History) → s .phase ≡ p → s .table ≡ t
+      → (d .dealt .phase ≡ history.run M (rounds (p .crew) r) s .phase) × (d .table ≡ history.run M (rounds (p .crew) r) s .table))
+  pub reached : Reached M (d .dealt .phase) (d .table)
+  -- which change nothing but activities and cells
+  pub frame : Framed p (d .dealt .phase)
+  pub left : d .dealt .phase .left ≡ p .left
+  pub shut : d .dealt .phase .shut ≡ p .shut
+  pub sized : length (d .table) ≡ length t
+
+-- from an open phase that calls have led to
 abbrev pub RunPromise : Type 0
-RunPromise = (M : Model) → Proper M → (p : Phase) (t : List ℕ) → Reached M p t → p .shut ≡ false → allIdle (run M p t .dealt .phase .workers) ≡ true
+RunPromise = (M : Model) → Proper M → (p : Phase) (t : List ℕ) → Reached M p t → p .shut ≡ false → Runs M p t (run M p t)
+
+-- ---- a lap is one turn call of each worker, 0, 1 and so on. (What a run leaves does not show in which order its turns were dealt.)
+abbrev pub LapPromise : Type 0
+LapPromise = (M : Model) → Proper M → (d : Dealing) (s : History) → s .phase ≡ d .dealt .phase → s .table ≡ d .table
+    → (lap M d .dealt .phase ≡ history.run M (round (d .dealt .phase .crew) []) s .phase)
+    × (lap M d .table ≡ history.run M (round (d .dealt .phase .crew) []) s .table)

@@ -9,6 +9,7 @@ ghost use Rattle.state.specs.Model.{gateway};
 ghost use Rattle.dealing.specs.Reached.{Reached};
 ghost use Rattle.dealing.specs.Deal;
 ghost use Rattle.dealing.specs.Deal.{Dealing, unfinished, finishAfter};
+ghost use Rattle.dealing.specs.Promise.{Runs};
 
 // How an operation ended.
 pub enum Ended {
@@ -56,10 +57,12 @@ fn finish_after(before: Finish, reply: TurnReply) -> Finish
 }
 
 // Turns in an open phase until all workers are idle. The record is not tested: calls have led to it. A worker that is idle is passed over: its
-// turn would change nothing. One function with both loops, so that the phase is not copied for each lap.
+// turn would change nothing. One function with both loops, so that the phase is not copied for each lap. The result is the definition's, and what is
+// promised of every run holds of it: all are idle, and each worker's finish is right.
 pub fn run(mut phase: Phase, cells: &mut [u32]) -> Dealt
     requires { ⌜ Reached gateway phase (now cells) × (phase .shut ≡ false) ⌝ }
-    ensures { λ r. ⌜ _≡_ {A = Dealing} (record { dealt = r; table = now (cells .exit) }) (Deal.run gateway phase (now (cells .entry))) ⌝ }
+    ensures is_run { λ r. ⌜ _≡_ {A = Dealing} (record { dealt = r; table = now (cells .exit) }) (Deal.run gateway phase (now (cells .entry))) ⌝ }
+    ensures promise { λ r. ⌜ Runs gateway phase (now (cells .entry)) (record { dealt = r; table = now (cells .exit) }) ⌝ }
 {
     let mut finishes = no_finishes();
     let count = phase.crew as usize;

@@ -1,59 +1,45 @@
--- The examples are computed as one test; a law turns the passed test into what each example says.
-use mathlib.Core.Path.{_≡_, refl}
-use mathlib.Core.Bool.{Bool, true, false}
+-- The examples, computed table by table.
 use mathlib.Core.List.{List, [], _∷_, _++_, map}
-use lib.Dec.{T, eqb, eqb→eq, T-not}
-use lib.ListN.{length}
+use lib.Dec.{T}
+use Rattle.ring.specs.Counting.{count}
 use Rattle.ring.specs.Ring.{wrap, probe, dist, prev}
-use Rattle.layout.specs.Home.{modulo}
 use Rattle.layout.specs.Layout.{into, descending, listed, without, firstEmpty, place, placeAll, layout}
 use Rattle.layout.specs.Sound.{all, some, clear, isSound}
-use Rattle.layout.proofs.Sound.{isSound-of}
-use Rattle.layout.proofs.Tests.{and-left, and-right}
-use Rattle.words.specs.Words.{group, wordOf}
-use Rattle.ring.specs.Counting.{count}
-use Rattle.state.specs.Model.{gateway}
-use Rattle.state.specs.Open.{openReply, openCall}
-use Rattle.state.specs.Refusals.{replyNumber}
 use Rattle.rule.specs.Rule.{insertStep, findStep, fits, narrow, deleteStep, rule}
-use Rattle.protocol.specs.Calls.{orderCall}
+use Rattle.rule.specs.Schedules.{Schedule, sameTable, sameBit, schedules, AllClose}
+use Rattle.rule.proofs.Schedules.{all-close}
 use Rattle.protocol.specs.IsWellFormed.{isWellFormed}
-use Rattle.history.specs.History.{call, run, after}
-use Rattle.rule.specs.Schedules.{Schedule, sameTable, schedules, AllClose}
-use Rattle.rule.proofs.Schedules.{same-table, closes, all-close}
-use Rattle.examples.specs.Examples.{Example, laid, word, unsound, ordering, calling, closing, Says, passes, allPass, tables, rounds, phases, AllSay, ExamplesPromise}
-
-is-true : (b : Bool) → T b → b ≡ true
-is-true true p = refl
-is-true false p = absurd p
-
-passes-says : (e : Example) → T (passes e) → Says e
-unfolding passes
-passes-says (laid n keys t) p = same-table (layout n (modulo n) keys) t p
-passes-says (word t w) p = eqb→eq (wordOf (group t 0)) w p
-passes-says (unsound t) p = λ s. T-not (isSound (length t) (modulo (length t)) t) p (isSound-of (length t) (modulo (length t)) t s)
-passes-says (ordering k m t w v r) p =
-    let opens = eqb (replyNumber (openReply gateway k m t)) 0 in
-    let number = replyNumber (orderCall gateway (openCall gateway k m t .phase) w v .reply) in
-    let answered = eqb number r in
-    (eqb→eq (replyNumber (openReply gateway k m t)) 0 (and-left opens answered p), eqb→eq number r (and-right opens answered p))
-passes-says (calling k m t cs u) p =
-    let s = after gateway k m t cs in
-    (is-true (s .phase .shut) (and-left (s .phase .shut) _ p), same-table (s .table) u (and-right (s .phase .shut) _ p))
-passes-says (closing s) p = closes s p
-
-all-say : (es : List Example) → T (allPass es) → AllSay es
-unfolding allPass
-all-say [] p = tt
-all-say (e ∷ es) p = (passes-says e (and-left (passes e) (allPass es) p), all-say es (and-right (passes e) (allPass es) p))
+use Rattle.history.specs.History.{call, run}
+use Rattle.numbered.specs.Lists.{answerOf, answersOf}
+use Rattle.examples.specs.Forms.{Example, closing, AllSay}
+use Rattle.examples.specs.Traces.{idleTurns, insertTurns, findTurns, deleteTurns, traces}
+use Rattle.examples.specs.Bounds.{numberBounds, crewBounds, kindBounds, cellBounds, keyBounds, bounds}
+use Rattle.examples.specs.Limits.{lengths, openings, refusedTurns, listings, limits}
+use Rattle.examples.specs.Examples.{tables, ons, phases, ExamplesPromise}
+use Rattle.examples.proofs.Passing.{codeOf, sameWorkers, samePhase, passes, allPass, all-say}
 
 computed : T (allPass tables)
 unfolding allPass passes tables sameTable layout placeAll place firstEmpty descending into without listed isSound all some clear dist probe wrap
 computed = tt
 
 phases-computed : T (allPass phases)
-unfolding allPass passes phases rounds sameTable run call isWellFormed isSound all some clear dist wrap prev count rule insertStep findStep deleteStep fits narrow
+unfolding allPass passes phases ons sameTable answerOf answersOf run call
+    isWellFormed isSound all some clear dist wrap prev count rule insertStep findStep deleteStep fits narrow
 phases-computed = tt
+
+traces-computed : T (allPass traces)
+unfolding allPass passes idleTurns insertTurns findTurns deleteTurns sameTable sameBit codeOf sameWorkers samePhase
+    isWellFormed dist wrap prev rule insertStep findStep deleteStep fits narrow
+traces-computed = tt
+
+bounds-computed : T (allPass bounds)
+unfolding allPass passes numberBounds crewBounds kindBounds cellBounds keyBounds isWellFormed
+bounds-computed = tt
+
+limits-computed : T (allPass limits)
+unfolding allPass passes lengths openings refusedTurns listings sameTable sameBit codeOf sameWorkers samePhase
+    isWellFormed isSound all some clear dist wrap count
+limits-computed = tt
 
 -- ---- with the schedules
 both : (es es′ : List Example) → AllSay es → AllSay es′ → AllSay (es ++ es′)
@@ -66,6 +52,14 @@ all-closing (s ∷ others) p = (p .0, all-closing others (p .1))
 
 pub theorem : ExamplesPromise
 theorem =
-    both (tables ++ phases) (map closing schedules)
-    (both tables phases (all-say tables computed) (all-say phases phases-computed))
+    both (tables ++ phases ++ traces ++ bounds ++ limits) (map closing schedules)
+    (
+    both (tables ++ phases ++ traces ++ bounds) limits
+    (
+    both (tables ++ phases ++ traces) bounds
+    (both (tables ++ phases) traces (both tables phases (all-say tables computed) (all-say phases phases-computed)) (all-say traces traces-computed))
+    (all-say bounds bounds-computed)
+    )
+    (all-say limits limits-computed)
+    )
     (all-closing schedules all-close)

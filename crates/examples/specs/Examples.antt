@@ -1,58 +1,13 @@
--- Worked examples as one table: document 01's tables to try that are marked P, and schedules of phases.
-use mathlib.Core.Path.{_≡_}
-use mathlib.Core.Bool.{Bool, true, not, _&&_}
+-- Worked examples as one table: document 01's tables to try that are marked P, phases call by call, and the tables of the other files here.
 use mathlib.Core.List.{List, [], _∷_, _++_, map}
 use Prim.Native.Nat.{ℕ, zero, suc}
-use lib.Dec.{eqb}
-use lib.ListN.{length}
-use Rattle.layout.specs.Home.{modulo}
-use Rattle.layout.specs.Layout.{layout, without}
-use Rattle.layout.specs.Sound.{Sound, isSound}
-use Rattle.words.specs.Words.{group, wordOf}
-use Rattle.state.specs.Model.{gateway}
-use Rattle.state.specs.Open.{openReply, openCall}
-use Rattle.state.specs.Refusals.{replyNumber}
-use Rattle.protocol.specs.Calls.{orderCall}
-use Rattle.history.specs.History.{Call, order, turn, close, after}
-use Rattle.rule.specs.Schedules.{Schedule, Closes, sameTable, closesRight, schedules}
-
-pub data Example : Type 0 where
-  -- the layout of these keys in n cells is this table
-  laid : (n : ℕ) (keys table : List ℕ) → Example
-  -- the occupancy word of the table's first group
-  word : (table : List ℕ) (w : ℕ) → Example
-  -- the table is not sound
-  unsound : (table : List ℕ) → Example
-  -- a phase of kind k with m workers opens on the table, and the order of key v to worker w is then answered with this number
-  ordering : (k m : ℕ) (table : List ℕ) (w v number : ℕ) → Example
-  -- the calls from such an opening on end the phase, and leave this table
-  calling : (k m : ℕ) (table : List ℕ) (calls : List Call) (closed : List ℕ) → Example
-  -- a schedule of a phase closes as written
-  closing : (s : Schedule) → Example
-
--- what an example says
-abbrev pub Says : Example → Type 0
-Says (laid n keys t) = layout n (modulo n) keys ≡ t
-Says (word t w) = wordOf (group t 0) ≡ w
-Says (unsound t) = Sound (length t) (modulo (length t)) t → ⊥
-Says (ordering k m t w v r) =
-    (replyNumber (openReply gateway k m t) ≡ 0) × (replyNumber (orderCall gateway (openCall gateway k m t .phase) w v .reply) ≡ r)
-Says (calling k m t cs u) = (after gateway k m t cs .phase .shut ≡ true) × (after gateway k m t cs .table ≡ u)
-Says (closing s) = Closes s
-
--- the same as a test that computes
-unfoldable pub passes : Example → Bool
-passes (laid n keys t) = sameTable (layout n (modulo n) keys) t
-passes (word t w) = eqb (wordOf (group t 0)) w
-passes (unsound t) = not (isSound (length t) (modulo (length t)) t)
-passes (ordering k m t w v r) =
-    eqb (replyNumber (openReply gateway k m t)) 0 && eqb (replyNumber (orderCall gateway (openCall gateway k m t .phase) w v .reply)) r
-passes (calling k m t cs u) = after gateway k m t cs .phase .shut && sameTable (after gateway k m t cs .table) u
-passes (closing s) = closesRight s
-
-unfoldable pub allPass : List Example → Bool
-allPass [] = true
-allPass (e ∷ es) = passes e && allPass es
+use Rattle.layout.specs.Layout.{without}
+use Rattle.history.specs.History.{order, turn, close}
+use Rattle.rule.specs.Schedules.{schedules}
+use Rattle.examples.specs.Forms.{Example, laid, unsound, word, calling, closing, emptyCells, Told, ok, refuses, on, done, found, missing, rests, AllSay}
+use Rattle.examples.specs.Traces.{traces}
+use Rattle.examples.specs.Bounds.{bounds}
+use Rattle.examples.specs.Limits.{limits}
 
 -- document 01's four keys in five cells
 abbrev pub four : List ℕ
@@ -62,7 +17,7 @@ unfoldable pub tables : List Example
 tables =
     laid 5 (3 ∷ 4 ∷ 8 ∷ 13 ∷ []) four
     ∷ laid 5 (13 ∷ 3 ∷ 8 ∷ 0 ∷ 4 ∷ 3 ∷ []) four
-    ∷ word four 27
+    ∷ word four 0 27 0
     ∷ laid 5 (without (8 ∷ []) four) (3 ∷ 0 ∷ 0 ∷ 13 ∷ 4 ∷ [])
     ∷ laid 2 (7 ∷ []) (0 ∷ 7 ∷ [])
     ∷ laid 5 (4294967295 ∷ []) (4294967295 ∷ 0 ∷ 0 ∷ 0 ∷ 0 ∷ [])
@@ -72,31 +27,68 @@ tables =
     ∷ unsound (5 ∷ 6 ∷ 7 ∷ 8 ∷ 9 ∷ [])
     ∷ []
 
--- r rounds of turns of the workers 0 and 1, then a close
-unfoldable pub rounds : ℕ → List Call
-rounds zero = close ∷ []
-rounds (suc r) = turn 0 ∷ turn 1 ∷ rounds r
+-- ---- phases, each call with its answer
+-- r turns of worker w that go on, put before further calls
+unfoldable pub ons : ℕ → ℕ → List Told → List Told
+ons zero w cs = cs
+ons (suc r) w cs = on w ∷ ons r w cs
+
+-- 13 ordered out by two workers; a close before both have finished gets 10, calls after the close get 11
+abbrev pub twoTakeOut : List Told
+twoTakeOut =
+    ok (order 0 13) ∷ ok (order 1 13) ∷ refuses (order 1 8) 8 ∷ on 0 ∷ on 1 ∷ on 0 ∷ on 1 ∷ on 0 ∷ on 1 ∷ on 0 ∷ on 1 ∷ on 0 ∷ done 1
+    ∷ refuses close 10 ∷ rests 1 ∷ ons 7 0 (done 0 ∷ ok close ∷ refuses (turn 0) 11 ∷ refuses (order 9 0) 11 ∷ refuses close 11 ∷ [])
+
+-- two workers put in 8; there is no worker 2, and 0 is no label
+abbrev pub twoPutIn : List Told
+twoPutIn =
+    ok (order 0 8) ∷ refuses (order 2 8) 6 ∷ refuses (order 1 0) 7 ∷ ok (order 1 8) ∷ on 0 ∷ on 1 ∷ done 0 ∷ on 1 ∷ refuses (turn 2) 6 ∷ done 1 ∷ rests 1
+    ∷ ok close ∷ []
+
+-- the sheet: four orders are taken into five empty cells, and exactly the next one gets 9, also for a label already there
+abbrev pub sheetPutsIn : List Told
+sheetPutsIn =
+    ok (order 0 3) ∷ ok (order 1 8) ∷ on 0 ∷ on 1 ∷ done 0 ∷ on 1 ∷ on 1 ∷ on 1 ∷ on 1 ∷ done 1
+    ∷ ok (order 0 13) ∷ ok (order 1 4) ∷ on 0 ∷ on 1 ∷ on 0 ∷ on 1 ∷ on 0 ∷ on 1 ∷ on 0 ∷ on 0 ∷ done 0
+    ∷ refuses (order 0 1) 9 ∷ refuses (order 1 2) 8 ∷ on 1 ∷ on 1 ∷ on 1 ∷ done 1 ∷ refuses (order 1 13) 9 ∷ ok close ∷ []
+
+-- a look-up says yes if its label is in the table, otherwise no
+abbrev pub looksUp : List Told
+looksUp =
+    ok (order 0 4) ∷ ok (order 1 9) ∷ on 0 ∷ missing 1 ∷ found 0 ∷ rests 1
+    ∷ ok (order 1 3) ∷ on 1 ∷ on 1 ∷ on 1 ∷ found 1 ∷ ok close ∷ []
+
+-- first to apply wins: 6, 8, 7, 9
+abbrev pub refusedOrders : List Told
+refusedOrders =
+    refuses (order 1 0) 6 ∷ ok (order 0 5) ∷ refuses (order 1 0) 6 ∷ refuses (order 0 0) 8 ∷ on 0 ∷ done 0
+    ∷ refuses (order 1 0) 6 ∷ refuses (order 0 0) 7 ∷ refuses (order 0 5) 9 ∷ ok close ∷ []
 
 unfoldable pub phases : List Example
 phases =
-    calling 2 2 four (order 0 13 ∷ order 1 13 ∷ rounds 18) (3 ∷ 0 ∷ 0 ∷ 8 ∷ 4 ∷ [])
-    ∷ calling 2 2 four (order 0 8 ∷ rounds 18) (3 ∷ 0 ∷ 0 ∷ 13 ∷ 4 ∷ [])
-    ∷ calling 1 2 (0 ∷ 0 ∷ 0 ∷ 0 ∷ 0 ∷ []) (order 0 8 ∷ order 1 8 ∷ rounds 6) (0 ∷ 0 ∷ 0 ∷ 8 ∷ 0 ∷ [])
-    ∷ calling 3 1 four (close ∷ []) four
-    ∷ ordering 1 1 (0 ∷ 7 ∷ []) 0 4 9
-    ∷ ordering 1 1 (0 ∷ 0 ∷ []) 0 4 0
-    ∷ ordering 1 16 four 15 0 7
-    ∷ ordering 2 2 four 2 8 6
+    calling 2 2 four twoTakeOut 18 (3 ∷ 0 ∷ 0 ∷ 8 ∷ 4 ∷ [])
+    ∷ calling 2 2 four (ok (order 0 8) ∷ ons 10 0 (done 0 ∷ ok close ∷ [])) 11 (3 ∷ 0 ∷ 0 ∷ 13 ∷ 4 ∷ [])
+    -- the next shift counts afresh, so freed cells serve again: the four take no order, without 8 they take one
+    ∷ calling 1 1 four (refuses (order 0 8) 9 ∷ ok close ∷ []) 0 four
+    ∷ calling 1 1 (3 ∷ 0 ∷ 0 ∷ 13 ∷ 4 ∷ []) (ok (order 0 8) ∷ ons 6 0 (done 0 ∷ refuses (order 0 8) 9 ∷ ok close ∷ [])) 7 four
+    ∷ calling 1 2 (emptyCells 5) twoPutIn 5 (0 ∷ 0 ∷ 0 ∷ 8 ∷ 0 ∷ [])
+    ∷ calling 1 2 (emptyCells 5) sheetPutsIn 21 four
+    ∷ calling 3 2 four looksUp 7 four
+    ∷ calling 1 1 (emptyCells 2) refusedOrders 2 (0 ∷ 5 ∷ [])
+    -- a shift opened and closed without orders keeps its table
+    ∷ calling 1 16 four (rests 15 ∷ ok close ∷ []) 0 four
+    ∷ calling 2 16 four (rests 15 ∷ ok close ∷ []) 0 four
+    ∷ calling 3 16 four (rests 15 ∷ ok close ∷ []) 0 four
+    -- a put-in shift opens on 2 cells with {7} and its first order gets 9; on 2 empty cells its second order does
+    ∷ calling 1 1 (0 ∷ 7 ∷ []) (refuses (order 0 4) 9 ∷ ok close ∷ []) 0 (0 ∷ 7 ∷ [])
+    ∷ calling 1 1 (0 ∷ 0 ∷ []) (ok (order 0 4) ∷ on 0 ∷ done 0 ∷ refuses (order 0 4) 9 ∷ ok close ∷ []) 2 (4 ∷ 0 ∷ [])
+    -- outside put-in shifts no order gets 9
+    ∷ calling 2 16 (0 ∷ 7 ∷ []) (ok (order 15 4) ∷ ok (order 14 6) ∷ on 15 ∷ on 14 ∷ done 15 ∷ done 14 ∷ ok close ∷ []) 4 (0 ∷ 7 ∷ [])
     ∷ []
 
--- with the schedules of steps
+-- with turns one by one, spoilt records, limits, and the schedules of steps
 abbrev pub examples : List Example
-examples = tables ++ phases ++ map closing schedules
-
--- every example of a list holds
-abbrev pub AllSay : List Example → Type 0
-AllSay [] = Unit {0}
-AllSay (e ∷ es) = Says e × AllSay es
+examples = tables ++ phases ++ traces ++ bounds ++ limits ++ map closing schedules
 
 abbrev pub ExamplesPromise : Type 0
 ExamplesPromise = AllSay examples

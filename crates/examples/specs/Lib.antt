@@ -1,1 +1,7 @@
+pub mod Bounds
+pub mod Corollaries
 pub mod Examples
+pub mod Forms
+pub mod Lengths
+pub mod Limits
+pub mod Traces

@@ -1,4 +1,6 @@
+pub mod Corollaries
 pub mod Examples
+pub mod LineByLine
 pub mod Lines
 pub mod Parts
 pub mod Theorem

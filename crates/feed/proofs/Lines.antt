@@ -4,14 +4,14 @@ use mathlib.Core.Bool.{false}
 use mathlib.Core.List.{List, [], _∷_, _++_, append-assoc, append-nil}
 use Prim.Native.Nat.{ℕ, suc, _≤_, _<_}
 use native.Mathlib.Omega.{arith}
-use lib.ListN.{length, take, getD, length-take}
+use lib.ListN.{length, take, length-take}
 use lib.Seq.{take-all, take-suc}
 use lib.Dec.{eqb}
 use borrow.Author.Tests.{eqb-true, eqb-false, ne-eqb, eq-eqb}
 use Rattle.text.specs.Bytes.{byteAt}
 use Rattle.text.specs.Fields.{inFront}
 use Rattle.lines.specs.Grammar.{keptBytes}
-use Rattle.text.proofs.Bytes.{byte-nil, byte-here, byte-later}
+use Rattle.text.proofs.Bytes.{byte-nil, byte-here, byte-later, byte-found}
 use Rattle.text.proofs.Test.{by-test}
 use Rattle.feed.specs.Feed.{Kept, behindLine, lineOutput, withByte, fed, printed}
 use Rattle.feed.specs.Promise.{Plain, AllPlain, written}
@@ -48,16 +48,6 @@ pub front-plain : (bs : List ℕ) → Plain (take (byteAt 10 bs) bs)
 unfolding byteAt
 front-plain [] = refl
 front-plain (b ∷ bs) = one-front b bs (front-plain bs)
-
-one-found : (b : ℕ) (bs : List ℕ) → (byteAt 10 bs < length bs → getD bs (byteAt 10 bs) 0 ≡ 10)
-    → byteAt 10 (b ∷ bs) < suc (length bs) → getD (b ∷ bs) (byteAt 10 (b ∷ bs)) 0 ≡ 10
-one-found b bs more = by-test (eqb b 10)
-    (λ t. let z = eqb-true b 10 t in rw (at-newline b bs z) (λ h. z))
-    (λ t. rw (at-other b bs (eqb-false b 10 t)) (λ h. more (omega arith)))
-
-pub found : (bs : List ℕ) → byteAt 10 bs < length bs → getD bs (byteAt 10 bs) 0 ≡ 10
-found [] h = absurd (omega arith)
-found (b ∷ bs) h = one-found b bs (found bs) h
 
 -- ---- the lines that are written
 pub lines-newline : (b : ℕ) (bs : List ℕ) → b ≡ 10 → linesOf (b ∷ bs) ≡ [] ∷ linesOf bs
@@ -124,7 +114,7 @@ module _ (bs : List ℕ) (k : Kept) (goes : k .ended ≡ false) (few : length (k
   full = withLine k (take keptBytes (k .line ++ take end bs))
 
   cut : take (suc end) bs ≡ take end bs ++ 10 ∷ []
-  cut = take-suc bs end 0 some ∙ ap (λ (b : ℕ). take end bs ++ b ∷ []) (found bs some)
+  cut = take-suc bs end 0 some ∙ ap (λ (b : ℕ). take end bs ++ b ∷ []) (byte-found 10 bs some)
 
   until : fed k (take end bs) ≡ full
   until = fed-plain (take end bs) k goes few (front-plain bs)

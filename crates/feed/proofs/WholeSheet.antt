@@ -53,16 +53,16 @@ last-some k goes e =
     rw (goes, n)
 
 -- ---- all that follows
-one-line : (s : State) (n : ℕ) (l : List ℕ) (ls : List (List ℕ))
+pub one-line : (s : State) (n : ℕ) (l : List ℕ) (ls : List (List ℕ))
     → printedFrom s n (l ∷ ls) ≡ rendered n (answerOf s (readingOf l)) ++ cond (answerOf s (readingOf l) .ended) [] (printedFrom (answerOf s (readingOf l) .state) (suc n) ls)
 unfolding printedFrom
 one-line s n l ls = refl
 
-no-line : (s : State) (n : ℕ) → printedFrom s n [] ≡ []
+pub no-line : (s : State) (n : ℕ) → printedFrom s n [] ≡ []
 unfolding printedFrom
 no-line s n = refl
 
-cond-same : {A : Type 0} (b : Bool) (x : A) → cond b x x ≡ x
+pub cond-same : {A : Type 0} (b : Bool) (x : A) → cond b x x ≡ x
 cond-same true x = refl
 cond-same false x = refl
 

@@ -1,3 +1,4 @@
+pub mod Corollaries
 pub mod Examples
 pub mod Feed
 pub mod Promise

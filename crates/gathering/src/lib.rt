@@ -31,8 +31,8 @@ pub fn read_end(bytes: &[u8], line: &mut [u8], gathered: usize) -> Line
     ensures { λ r. ⌜ r ≡ readingOf (take gathered (now (line .entry)) ++ now (bytes .entry)) ⌝ }
 {
     if gathered == 0 {
-        return lines::read_line(bytes);
+        return parsing::read_line(bytes);
     }
     let n = gather(bytes, line, gathered);
-    lines::read_line(&line[..n])
+    parsing::read_line(&line[..n])
 }

@@ -6,12 +6,12 @@ use Rattle.state.specs.Model.{Model}
 use Rattle.state.specs.declared.Phase.{Phase}
 use Rattle.state.specs.declared.Reply.{Reply}
 use Rattle.state.specs.declared.Reply.the-variants.{Accepted, Refused}
-use Rattle.protocol.specs.Calls.{orderCall, turnCall, turnTable}
+use Rattle.protocol.specs.Calls.{closeCall, orderCall, turnCall, turnTable}
 use Rattle.protocol.specs.declared.TurnReply.{TurnReply}
 use Rattle.protocol.specs.declared.TurnReply.the-variants as turnReply
 use Rattle.protocol.specs.WellFormed.{WellFormed}
 use Rattle.protocol.proofs.Keeping.{order-keeps, turn-keeps, close-keeps}
-use Rattle.history.specs.History.{Call, order, turn, close, History, afterOrder, afterTurn, call}
+use Rattle.history.specs.History.{Call, order, turn, close, History, afterOrder, afterTurn, afterClose, call}
 
 -- ---- whatever the answer, the phase and the table are those given
 pub order-phase : (w v : ℕ) (p : Phase) (r : Reply) (s : History) → afterOrder w v p r s .phase ≡ p
@@ -30,6 +30,14 @@ pub turn-table : (w : ℕ) (t : List ℕ) (p : Phase) (r : TurnReply) (s : Histo
 turn-table w t p (turnReply.Answered a) s = refl
 turn-table w t p (turnReply.Refused r) s = refl
 
+pub close-phase : (p : Phase) (r : Reply) (s : History) → afterClose p r s .phase ≡ p
+close-phase p Accepted s = refl
+close-phase p (Refused r) s = refl
+
+pub close-table : (p : Phase) (r : Reply) (s : History) → afterClose p r s .table ≡ s .table
+close-table p Accepted s = refl
+close-table p (Refused r) s = refl
+
 -- the home rule gives a cell of the table
 pub call-keeps : (M : Model) (c : Call) (s : History) → ((v : ℕ) → M .home (s .phase .length) v < s .phase .length)
     → WellFormed M (s .phase) → WellFormed M (call M c s .phase)
@@ -40,4 +48,5 @@ call-keeps M (turn w) s at-home good =
     let t = turnTable M (s .phase) (s .table) w in
     let r = turnCall M (s .phase) (s .table) w in
     rw (turn-phase w t (r .phase) (r .reply) s) (turn-keeps M (s .phase) good (s .table) w)
-call-keeps M close s at-home good = close-keeps M (s .phase) good
+call-keeps M close s at-home good =
+    rw (close-phase (closeCall M (s .phase) .phase) (closeCall M (s .phase) .reply) s) (close-keeps M (s .phase) good)

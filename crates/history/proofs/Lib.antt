@@ -1,4 +1,5 @@
 pub mod Claim
+pub mod Counts
 pub mod Keeping
 pub mod Lists
 pub mod Opening
@@ -7,3 +8,4 @@ pub mod Refused
 pub mod Simulation
 pub mod Theorem
 pub mod Turns
+pub mod Unordered

@@ -1,5 +1,5 @@
 -- The run that an accepted opening shows.
-use mathlib.Core.Path.{_≡_, refl, sym, ap, _∙_}
+use mathlib.Core.Path.{_≡_, refl, sym, _∙_}
 use mathlib.Core.Bool.{false}
 use mathlib.Core.List.{List}
 use Prim.Native.Nat.{ℕ, _≤_, _<_}
@@ -9,20 +9,22 @@ use lib.ListN.{length, length-replicate}
 use Rattle.ring.proofs.Counting.{count-le}
 use Rattle.ring.proofs.Split.{by-eq}
 use Rattle.rule.specs.Events as events
-use Rattle.phases.proofs.Crew.{replicate-at}
+use Rattle.rule.proofs.Crew.{replicate-at}
 use Rattle.phases.proofs.Steps.{either}
 use Rattle.state.specs.Model.{Model, Proper}
-use Rattle.activities.specs.Activities.{idle}
 use Rattle.activities.specs.Kinds.{allowance}
 use Rattle.state.specs.Open.{openReply}
 use Rattle.activities.specs.declared.Activity.the-variants.{Idle}
 use Rattle.state.specs.declared.Reply.the-variants.{Accepted}
+use Rattle.protocol.specs.Promise.{Resting}
 use Rattle.protocol.specs.WellFormed.{Kind}
 use Rattle.ring.proofs.Tests.{not-both}
-use Rattle.protocol.proofs.Theorem.{open-passed}
+use Rattle.protocol.proofs.Opening.{fresh-resting, other-allowance}
+use Rattle.protocol.proofs.Theorem.{opens, open-passed}
 use Rattle.history.specs.History.{opening}
 use Rattle.history.proofs.Pending.{agrees-idle}
 use Rattle.history.proofs.Simulation.{Shows}
+use Rattle.history.proofs.Unordered.{Untouched}
 
 pub by-kinds {ℓ} : {C : Type ℓ} (k : ℕ) → Kind k → (k ≡ 1 → C) → (k ≡ 2 → C) → (k ≡ 3 → C) → C
 by-kinds k e f g h = by-eq k 1 f (λ a. by-eq k 2 g (λ b. h (omega arith)))
@@ -41,6 +43,13 @@ module _ (M : Model) (proper : Proper M) (k m : ℕ) (t : List ℕ) (accepted : 
   manned : m ≤ M .room
   manned = omega (arith, proper .places, open-passed M k m t accepted .1)
 
+  pub resting : Resting M k (length t) m false (opening M k m t .phase)
+  resting = opens M k m t .accepted (rw accepted)
+
+  -- no order yet: the table is as given and all workers are idle
+  pub opening-untouched : Untouched t (opening M k m t)
+  opening-untouched = record { table = λ _. refl; idle = λ _. resting .rest }
+
   pub opening-shows : Shows k (length t) m (opening M k m t) (events.opened k m t)
   opening-shows = rw accepted
       (record {
@@ -48,11 +57,12 @@ module _ (M : Model) (proper : Proper M) (k m : ℕ) (t : List ℕ) (accepted : 
         cells = refl;
         count = refl;
         few = allowed;
+        none-left = other-allowance k t;
         crew = record {
           records = rw length-replicate manned;
           places = rw length-replicate manned;
           all = length-replicate m Idle;
-          same = λ w. ap (λ x. x .activity) (replicate-at idle (M .room) w) ∙ sym (replicate-at Idle m w);
+          same = λ w. fresh-resting M k (length t) m (allowance k t) false .rest w ∙ sym (replicate-at Idle m w);
           agree = λ w. rw (replicate-at {A = ℕ} 0 (M .room) w, replicate-at Idle m w) (agrees-idle k);
         };
         table = refl;
@@ -60,5 +70,6 @@ module _ (M : Model) (proper : Proper M) (k m : ℕ) (t : List ℕ) (accepted : 
         left = refl;
         said = λ _. refl;
         counted = refl;
-        rest = λ shut. absurd (not-both false shut refl);
+        shut = refl;
+        rest = λ closed. absurd (not-both false closed refl);
       })

@@ -18,7 +18,7 @@ use Rattle.rule.specs.declared.Answer.{Answer}
 use Rattle.rule.specs.declared.Answer.the-variants.{WentOn, Finished, Yes, No}
 use Rattle.rule.specs.declared.Answer.the-variants as answer
 use Rattle.rule.specs.declared.Outcome.{Outcome}
-use Rattle.phases.proofs.Finishing.{final, settles}
+use Rattle.rule.proofs.Telling.{final, settles}
 use Rattle.phases.proofs.Steps.{either}
 use Rattle.activities.specs.declared.Activity.{Activity}
 use Rattle.activities.specs.declared.Activity.the-variants.{Idle, Reading, Replacing, WalkingBack, SeekingForward, SeekingBack}

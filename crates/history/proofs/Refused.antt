@@ -1,21 +1,18 @@
 -- A refused opening hands back a shut phase state; it is well formed, and no call changes it.
-use mathlib.Core.Path.{_≡_, refl, ap, _∙_}
+use mathlib.Core.Path.{_≡_, refl, _∙_}
 use mathlib.Core.Logic.{_≢_}
 use mathlib.Core.Bool.{true}
 use mathlib.Core.List.{List, [], _∷_}
 use Prim.Native.Nat.{ℕ}
 use native.Mathlib.Omega.{arith}
-use Rattle.phases.proofs.Crew.{replicate-at}
 use Rattle.state.specs.Model.{Model, sizeOk, crewOk}
-use Rattle.activities.specs.Activities.{idle}
 use Rattle.state.specs.Open.{openReply, refusedPhase}
-use Rattle.activities.specs.declared.Activity.the-variants.{Idle}
 use Rattle.state.specs.declared.Reply.the-variants.{Accepted}
-use Rattle.protocol.specs.Bars.{doing}
 use Rattle.protocol.specs.Calls.{closeReply, orderReply, turnCheck}
 use Rattle.protocol.specs.IsWellFormed.{isWellFormed}
 use Rattle.protocol.proofs.Chain.{by-reply}
 use Rattle.ring.proofs.Tests.{not-both, within-says}
+use Rattle.protocol.proofs.Opening.{fresh-resting, resting-formed}
 use Rattle.protocol.proofs.Theorem.{well-formed, order-passed, close-passed, turn-passed}
 use Rattle.history.specs.History.{Call, order, turn, close, History, call, run, opening}
 
@@ -39,13 +36,6 @@ module _ (M : Model) where
 
 pub refused-formed : (M : Model) → sizeOk M 2 ≡ true → crewOk M 1 ≡ true → isWellFormed M (refusedPhase M) ≡ true
 refused-formed M a b =
-    let rest : (w : ℕ) → doing (refusedPhase M) w ≡ Idle = λ w. ap (λ x. x .activity) (replicate-at idle (M .room) w) in
-    well-formed M (refusedPhase M) .1
-    (record {
-      kind = (omega arith, omega arith);
-      size = within-says (M .fewestCells) (M .mostCells) 2 .0 a;
-      crew = within-says (M .fewestWorkers) (M .mostWorkers) 1 .0 b;
-      left = omega arith;
-      past = λ w _. rest w;
-      workers = λ w _. rw (rest w) tt;
-    })
+    let size = within-says (M .fewestCells) (M .mostCells) 2 .0 a in
+    let crew = within-says (M .fewestWorkers) (M .mostWorkers) 1 .0 b in
+    well-formed M (refusedPhase M) .1 (resting-formed M 3 2 1 true (refusedPhase M) (omega arith) size crew (omega arith) (fresh-resting M 3 2 1 0 true))

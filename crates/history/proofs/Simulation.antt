@@ -1,6 +1,6 @@
 -- A list of calls runs like a list of events: a call that is not refused is the event of the same name, a refused call and a close are none.
 use mathlib.Core.Path.{_≡_, refl, sym, ap, ap₂, _∙_}
-use mathlib.Core.Logic.{_≢_, _⊎_, inl, inr, ⊎-elim}
+use mathlib.Core.Logic.{_≢_, _↔_, _⊎_, inl, inr, ⊎-elim}
 use mathlib.Core.Bool.{Bool, true, false, cond}
 use mathlib.Core.List.{List, [], _∷_, _++_}
 use Prim.Native.Nat.{ℕ, _+_, _-_, _≤_, _<_}
@@ -17,9 +17,10 @@ use Rattle.rule.specs.Rule.{touched, rule, start}
 use Rattle.rule.specs.declared.Outcome.{Outcome}
 use Rattle.rule.specs.declared.Place.{Place}
 use Rattle.rule.specs.declared.Place.the-variants.{Nowhere, At}
+use Rattle.rule.proofs.Suits.{nowhere-idle}
 use Rattle.state.specs.Model.{Model}
 use Rattle.activities.specs.declared.Activity.{Activity}
-use Rattle.activities.specs.declared.Activity.the-variants.{Idle, Reading, Replacing, WalkingBack, SeekingForward, SeekingBack}
+use Rattle.activities.specs.declared.Activity.the-variants.{Idle}
 use Rattle.state.specs.declared.Reply.the-variants.{Accepted}
 use Rattle.protocol.specs.Bars.{doing}
 use Rattle.protocol.specs.Calls.{withWorker, closeReply, orderReply, turnCheck, movedAt, cellsAt}
@@ -29,7 +30,7 @@ use Rattle.protocol.proofs.Chain.{by-reply}
 use Rattle.ring.proofs.Tests.{not-both}
 use Rattle.protocol.proofs.Theorem.{order-passed, close-passed, turn-passed}
 use Rattle.history.specs.History.{Call, order, turn, close, History, afterTurn, call, run}
-use Rattle.history.proofs.Pending.{Agrees, agrees-start, agrees-step, keyLeft, Crew, crew-set, crew-left}
+use Rattle.history.proofs.Pending.{Agrees, agrees-rest, agrees-start, agrees-step, keyLeft, Crew, crew-set, crew-left}
 
 -- s, in a phase opened with kind k, n cells and m workers, is r with a phase state around it
 pub record Shows (k n m : ℕ) (s : History) (r : Run) : Type 0 where
@@ -37,27 +38,24 @@ pub record Shows (k n m : ℕ) (s : History) (r : Run) : Type 0 where
   pub cells : s .phase .length ≡ n
   pub count : s .phase .crew ≡ m
   pub few : s .phase .left < n
+  pub none-left : k ≢ 1 → s .phase .left ≡ 0
   pub crew : Crew k m (s .phase .workers) (s .pending) (r .workers)
   pub table : s .table ≡ r .table
   pub ordered : s .ordered ≡ r .ordered
   pub left : s .phase .left ≡ r .left
   pub said : k ≡ 3 → s .said ≡ r .said
   pub counted : s .counted ≡ r .counted
-  pub rest : s .phase .shut ≡ true → AllIdle r
+  pub shut : s .phase .shut ≡ s .closed
+  pub rest : s .closed ≡ true → AllIdle r
+
+-- a worker is idle exactly if it has no unfinished order
+pub unfinished-says : {k n m : ℕ} {s : History} {r : Run} → Shows k n m s r → (w : ℕ) → (getD (s .pending) w 0 ≡ 0) ↔ (doing (s .phase) w ≡ Idle)
+unfinished-says {k} {s} {r} h w = rw (h .crew .same w) (agrees-rest k (getD (s .pending) w 0) (getD (r .workers) w Idle) (h .crew .agree w))
 
 -- an accepted insert operation takes one of those left, another none
 less : (b : Bool) (x : ℕ) → cond b (x - 1) x ≡ x - cond b 1 0
 less true x = refl
 less false x = omega arith
-
--- a worker that touches nothing is idle
-nowhere-idle : (a : Activity) → touched a ≡ Nowhere → a ≡ Idle
-nowhere-idle Idle e = refl
-nowhere-idle (Reading v i) e = cc
-nowhere-idle (Replacing v k j x) e = cc
-nowhere-idle (WalkingBack v k) e = cc
-nowhere-idle (SeekingForward v k j) e = cc
-nowhere-idle (SeekingBack v k j x p) e = cc
 
 module _ (M : Model) (k n m : ℕ) where
   -- s shows r, or what one event makes of it
@@ -75,12 +73,14 @@ module _ (M : Model) (k n m : ℕ) where
         cells = h .cells;
         count = h .count;
         few = h .few;
+        none-left = h .none-left;
         crew = h .crew;
         table = h .table;
         ordered = h .ordered;
         left = h .left;
         said = h .said;
         counted = h .counted;
+        shut = refl;
         rest = λ _ w. sym (h .crew .same w) ∙ idle w;
       }))
       (λ _ e. rw e h)
@@ -109,13 +109,15 @@ module _ (M : Model) (k n m : ℕ) where
         cells = h .cells;
         count = h .count;
         few = rw less (omega (arith, h .few));
+        none-left = λ ne. rw less (omega (arith, h .none-left ne));
         crew = rw (h .cells) (crew-set k m (s .phase .workers) (s .pending) (r .workers) w v (start (M .home n) v) l (agrees-start k (M .home n) v (q .key)) (h .crew));
         table = h .table;
         ordered = ap (_∷_ v) (h .ordered);
         left = rw (less, h .kind, h .left);
         said = h .said;
         counted = h .counted;
-        rest = λ shut. absurd (not-both (s .phase .shut) shut (q .running));
+        shut = h .shut;
+        rest = λ closed. absurd (not-both (s .phase .shut) (h .shut ∙ closed) (q .running));
       })
 
   -- ---- turn
@@ -137,13 +139,15 @@ module _ (M : Model) (k n m : ℕ) where
         cells = h .cells;
         count = h .count;
         few = h .few;
+        none-left = h .none-left;
         crew = crew-left k m (s .phase .workers) (s .pending) (r .workers) w (o .answer) (o .activity) l after (h .crew);
         table = rw (h .table);
         ordered = h .ordered;
         left = h .left;
         said = λ f. ap₂ (λ x l. tells x (o .answer) ++ l) (before .key f) (h .said f);
         counted = omega (arith, before .unfinished, h .counted);
-        rest = λ shut. absurd (not-both (s .phase .shut) shut running);
+        shut = h .shut;
+        rest = λ closed. absurd (not-both (s .phase .shut) (h .shut ∙ closed) running);
       }
 
   step-is : (r : Run) (w : ℕ) (a : Activity) → w < length (r .workers) → worker r w ≡ a
@@ -177,7 +181,7 @@ module _ (M : Model) (k n m : ℕ) where
       (turned-shows s r w (touched (doing (s .phase) w)) h running l refl)
 
   -- ---- every call, and every list of calls
-  follows : (c : Call) (s : History) (r : Run) → Shows k n m s r → Follows (call M c s) r
+  pub follows : (c : Call) (s : History) (r : Run) → Shows k n m s r → Follows (call M c s) r
   unfolding call
   follows (order w v) s r h =
       by-reply (orderReply M (s .phase) w v) (λ e. inr (events.order w v, order-shows s r w v h e)) (λ _ e. inl (rw e h))

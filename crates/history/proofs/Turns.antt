@@ -1,43 +1,21 @@
 -- Two turns alike in kind, length, record and touched cell. The touched cell is in the table, since the phase is well formed.
 use mathlib.Core.Path.{_≡_, refl, sym, ap, _∙_}
-use mathlib.Core.List.{List}
-use Prim.Native.Nat.{ℕ, _<_}
+use Prim.Native.Nat.{ℕ}
 use native.Mathlib.Omega.{arith}
-use lib.ListN.{length, getD, length-set, List·getD-eq-default}
+use lib.ListN.{getD, length-set}
 use lib.Seq.{getD-set-same, getD-set-other}
-use Rattle.ring.proofs.Split.{by-lt}
 use Rattle.activities.specs.Activities.{idle}
-use Rattle.activities.proofs.Activities.{cells-below}
 use Rattle.rule.specs.Rule.{touched, rule}
-use Rattle.rule.proofs.Suits.{touched-below}
 use Rattle.rule.specs.declared.Outcome.{Outcome}
 use Rattle.rule.specs.declared.Place.{Place}
 use Rattle.rule.specs.declared.Place.the-variants.{Nowhere, At}
-use Rattle.state.specs.Model.{Model}
-use Rattle.activities.specs.declared.Activity.{Activity}
-use Rattle.state.specs.declared.Phase.{Phase}
-use Rattle.state.specs.declared.Reply.the-variants.{Accepted}
 use Rattle.activities.specs.declared.Worker.{Worker}
 use Rattle.protocol.specs.Bars.{doing}
-use Rattle.protocol.specs.Calls.{withWorker, turnCheck, turnTable}
+use Rattle.protocol.specs.Calls.{turnTable}
 use Rattle.protocol.specs.declared.TurnReply.the-variants.{Answered}
-use Rattle.protocol.proofs.Theorem.{turn-passed}
+use Rattle.protocol.proofs.Frames.{present, moved}
+use Rattle.protocol.proofs.Theorem.{turn-passed, inside}
 use Rattle.history.specs.Promise.{Alike, TwoTurnsPromise}
-
--- a worker that touches a cell is in the list of workers
-present : (p : Phase) (w c : ℕ) → touched (doing p w) ≡ At c → w < length (p .workers)
-present p w c is = by-lt w (length (p .workers)) (λ l. l) (λ l.
-    let e : getD (p .workers) w idle ≡ idle = List·getD-eq-default (p .workers) idle l in
-    absurd (let z : _≡_ {A = ℕ} 0 1 = cc in omega arith))
-
-moved : (p : Phase) (w : ℕ) (x : Activity) → w < length (p .workers) → doing (withWorker p w x) w ≡ x
-moved p w x l = ap (λ (y : Worker). y .activity) (getD-set-same (p .workers) w (record { activity = x }) idle l)
-
--- the cell that a worker of a well-formed phase state touches is in the table
-inside : (M : Model) (p : Phase) (t : List ℕ) (w c : ℕ) → turnCheck M p t w ≡ Accepted → touched (doing p w) ≡ At c → c < length t
-inside M p t w c e is =
-    let (formed, _, cells, below) = turn-passed M p t w e in
-    omega (arith, touched-below (p .length) (doing p w) c (cells-below (p .kind) (p .length) (doing p w) (formed .workers w below)) is)
 
 pub alike : TwoTurnsPromise
 alike M p q t u w z a b kind sized same held = by (touched (doing p w)) refl (ap touched (sym same))

@@ -36,6 +36,8 @@ pub record History : Type 0 where
   pub said : List Said
   -- the turns not refused whose worker has an unfinished order
   pub counted : ℕ
+  -- a close was accepted
+  pub closed : Bool
 
 -- finished, with yes or no in a find phase
 abbrev pub isFinish : Answer → Bool
@@ -46,6 +48,18 @@ isFinish No = true
 isFinish answer.Idle = false
 
 -- ---- what a call's answer adds
+-- a refusal nothing, beside the table and the phase state as the call left them
+abbrev pub afterRefusal : List ℕ → Phase → History → History
+afterRefusal t p s = record {
+  table = t;
+  phase = p;
+  ordered = s .ordered;
+  pending = s .pending;
+  said = s .said;
+  counted = s .counted;
+  closed = s .closed;
+}
+
 abbrev pub afterOrder : ℕ → ℕ → Phase → Reply → History → History
 afterOrder w v p Accepted s = record {
   table = s .table;
@@ -54,8 +68,9 @@ afterOrder w v p Accepted s = record {
   pending = set (s .pending) w v;
   said = s .said;
   counted = s .counted;
+  closed = s .closed;
 }
-afterOrder w v p (Refused r) s = record { table = s .table; phase = p; ordered = s .ordered; pending = s .pending; said = s .said; counted = s .counted }
+afterOrder w v p (Refused r) s = afterRefusal (s .table) p s
 
 abbrev pub afterTurn : ℕ → List ℕ → Phase → TurnReply → History → History
 afterTurn w t p (turnReply.Answered a) s = record {
@@ -65,19 +80,48 @@ afterTurn w t p (turnReply.Answered a) s = record {
   pending = cond (isFinish a) (set (s .pending) w 0) (s .pending);
   said = tells (getD (s .pending) w 0) a ++ s .said;
   counted = bit (ltb 0 (getD (s .pending) w 0)) + s .counted;
+  closed = s .closed;
 }
-afterTurn w t p (turnReply.Refused r) s = record { table = t; phase = p; ordered = s .ordered; pending = s .pending; said = s .said; counted = s .counted }
+afterTurn w t p (turnReply.Refused r) s = afterRefusal t p s
+
+abbrev pub afterClose : Phase → Reply → History → History
+afterClose p Accepted s = record {
+  table = s .table;
+  phase = p;
+  ordered = s .ordered;
+  pending = s .pending;
+  said = s .said;
+  counted = s .counted;
+  closed = true;
+}
+afterClose p (Refused r) s = afterRefusal (s .table) p s
+
+-- ---- what a turn's answer says of its worker: it had an unfinished order and went on or finished
+abbrev pub worked : TurnReply → Bool
+worked (turnReply.Answered WentOn) = true
+worked (turnReply.Answered Finished) = true
+worked (turnReply.Answered Yes) = true
+worked (turnReply.Answered No) = true
+worked (turnReply.Answered answer.Idle) = false
+worked (turnReply.Refused r) = false
 
 module _ (M : Model) where
   unfoldable pub call : Call → History → History
   call (order w v) s = let r = orderCall M (s .phase) w v in afterOrder w v (r .phase) (r .reply) s
   call (turn w) s = let r = turnCall M (s .phase) (s .table) w in afterTurn w (turnTable M (s .phase) (s .table) w) (r .phase) (r .reply) s
-  call close s = record { table = s .table; phase = closeCall M (s .phase) .phase; ordered = s .ordered; pending = s .pending; said = s .said; counted = s .counted }
+  call close s = let r = closeCall M (s .phase) in afterClose (r .phase) (r .reply) s
 
   -- a list of calls, the first one first
   unfoldable pub run : List Call → History → History
   run [] s = s
   run (c ∷ cs) s = run cs (call c s)
+
+  -- the answers of the turns of such a list, the first one first
+  unfoldable pub turnReplies : List Call → History → List TurnReply
+  turnReplies [] s = []
+  turnReplies (order w v ∷ cs) s = turnReplies cs (call (order w v) s)
+  turnReplies (turn w ∷ cs) s = turnCall M (s .phase) (s .table) w .reply ∷ turnReplies cs (call (turn w) s)
+  turnReplies (close ∷ cs) s = turnReplies cs (call close s)
 
   -- from an opening of kind k with m workers on the table t
   abbrev pub opening : ℕ → ℕ → List ℕ → History
@@ -88,6 +132,7 @@ module _ (M : Model) where
     pending = replicate (M .room) 0;
     said = [];
     counted = 0;
+    closed = false;
   }
 
   abbrev pub after : ℕ → ℕ → List ℕ → List Call → History

@@ -1,14 +1,14 @@
 -- Demand 3: what is promised of every list of order, turn and close calls from an accepted opening on, refused calls included, however the turns fall.
 use mathlib.Core.Path.{_≡_}
 use mathlib.Core.Logic.{_≢_, _↔_, _⊎_}
-use mathlib.Core.Bool.{true, cond}
-use mathlib.Core.List.{List, _++_}
-use Prim.Native.Nat.{ℕ, _+_, _<_}
+use mathlib.Core.Bool.{true, false, cond}
+use mathlib.Core.List.{List, [], _∷_, _++_}
+use Prim.Native.Nat.{ℕ, suc, _+_, _<_}
 use lib.Dec.{eqb}
 use lib.ListN.{length, getD}
 use Rattle.ring.specs.Counting.{count}
 use Rattle.layout.specs.Layout.{In, without, layout}
-use Rattle.layout.specs.Sound.{Ordered}
+use Rattle.layout.specs.Sound.{vacant, Ordered}
 use Rattle.rule.specs.declared.Place.the-variants.{At}
 use Rattle.activities.specs.Activities.{keyOf}
 use Rattle.rule.specs.Events.{Said}
@@ -16,13 +16,14 @@ use Rattle.rule.specs.Rule.{touched}
 use Rattle.phases.specs.Promise.{mostSteps, Right}
 use Rattle.state.specs.Model.{Model, Proper, sizeOk, crewOk}
 use Rattle.state.specs.Open.{openReply, refusedPhase}
+use Rattle.state.specs.Refusals.{replyNumber}
 use Rattle.activities.specs.declared.Activity.the-variants.{Idle}
 use Rattle.state.specs.declared.Phase.{Phase}
 use Rattle.state.specs.declared.Reply.the-variants.{Accepted}
 use Rattle.protocol.specs.Bars.{doing}
-use Rattle.protocol.specs.Calls.{turnCheck, turnCall, turnTable}
+use Rattle.protocol.specs.Calls.{orderCall, turnCheck, turnCall, turnTable}
 use Rattle.protocol.specs.IsWellFormed.{isWellFormed}
-use Rattle.history.specs.History.{Call, History, after}
+use Rattle.history.specs.History.{Call, close, History, worked, turnReplies, opening, after}
 
 -- the keys that a closed phase leaves: those at opening with every key put in, or without every key taken out, or unchanged
 abbrev pub keysAfter : ℕ → List ℕ → List ℕ → List ℕ
@@ -32,18 +33,38 @@ keysAfter k ordered t = cond (eqb k 1) (ordered ++ t) (cond (eqb k 2) (without o
 abbrev pub Carried : History → ℕ → Type 0
 Carried s v = (w : ℕ) × (keyOf (doing (s .phase) w) ≡ v)
 
+-- the phase state has the kind, the length and the worker count of the opening, and the table its length
+pub record AsOpened (k n m : ℕ) (s : History) : Type 0 where
+  pub kind : s .phase .kind ≡ k
+  pub cells : s .phase .length ≡ n
+  pub crew : s .phase .crew ≡ m
+  pub sized : length (s .table) ≡ n
+
 -- ---- one list of calls, closed or not
 module _ (M : Model) (k m : ℕ) (t : List ℕ) (cs : List Call) where
   pub record Claim : Type 0 where
     -- once a close is accepted, the table is the canonical layout, cell for cell
-    pub closed : after M k m t cs .phase .shut ≡ true
+    pub closed : after M k m t cs .closed ≡ true
         → after M k m t cs .table ≡ layout (length t) (M .home (length t)) (keysAfter k (after M k m t cs .ordered) t)
+    -- the record is shut exactly if a close was accepted
+    pub shut : after M k m t cs .phase .shut ≡ after M k m t cs .closed
     -- no phase state is ever ill-formed
     pub formed : isWellFormed M (after M k m t cs .phase) ≡ true
+    -- what was opened stays
+    pub numbers : AsOpened k (length t) m (after M k m t cs)
     -- a worker is idle exactly if it has no unfinished order
     pub unfinished : (w : ℕ) → (getD (after M k m t cs .pending) w 0 ≡ 0) ↔ (doing (after M k m t cs .phase) w ≡ Idle)
-    -- the counted turns are fewer than the formula
+    -- the counted turns are those of the list that were not refused and whose worker had an unfinished order, as their answers tell
+    pub counts : after M k m t cs .counted ≡ count worked (turnReplies M cs (opening M k m t))
+    -- they are fewer than the formula
     pub bounded : after M k m t cs .counted < mostSteps (length t) m (length (after M k m t cs .ordered))
+    -- put in: the accepted orders and those left are the empty cells at opening less one; in other kinds none are left
+    pub left : k ≡ 1 → suc (length (after M k m t cs .ordered) + after M k m t cs .phase .left) ≡ vacant t
+    pub none-left : k ≢ 1 → after M k m t cs .phase .left ≡ 0
+    -- an order is answered 9, full, exactly if it is for a key, to an idle worker, in an insert phase that is not closed and whose orders are used up
+    pub full : (w v : ℕ) → replyNumber (orderCall M (after M k m t cs .phase) w v .reply) ≡ 9
+        ↔ ((k ≡ 1) × (suc (length (after M k m t cs .ordered)) ≡ vacant t) × (after M k m t cs .closed ≡ false)
+        × (w < m) × (doing (after M k m t cs .phase) w ≡ Idle) × (v ≢ 0))
     -- put in: every key's path holds only greater keys; the table's and the carried keys are those at opening and those ordered
     pub ordering : k ≡ 1 → Ordered (length t) (M .home (length t)) (after M k m t cs .table)
     pub union : k ≡ 1 → (v : ℕ) → v ≢ 0
@@ -65,13 +86,23 @@ abbrev pub RefusedPromise : Type 0
 RefusedPromise = (M : Model) (k m : ℕ) (t : List ℕ) → openReply M k m t ≢ Accepted → (cs : List Call)
     → (after M k m t cs .phase ≡ refusedPhase M) × (sizeOk M 2 ≡ true → crewOk M 1 ≡ true → isWellFormed M (after M k m t cs .phase) ≡ true)
 
+-- ---- without orders, from one opening on
+pub record KeepsTable (M : Model) (k m : ℕ) (t : List ℕ) : Type 0 where
+  -- a phase opened and closed is closed, and keeps its table
+  pub at-once : (after M k m t (close ∷ []) .closed ≡ true) × (after M k m t (close ∷ []) .table ≡ t)
+  -- so does any list of calls, closed or not, in which no order is accepted
+  pub no-orders : (cs : List Call) → after M k m t cs .ordered ≡ [] → after M k m t cs .table ≡ t
+
+abbrev pub KeepsTablePromise : Type 0
+KeepsTablePromise = (M : Model) → Proper M → (k m : ℕ) (t : List ℕ) → openReply M k m t ≡ Accepted → KeepsTable M k m t
+
 -- ---- two lists so closed, of one kind, opened on equal tables and with the same set of keys in their accepted orders, leave equal tables, also in
 -- two models, if their home rules agree
 abbrev pub OneTablePromise : Type 0
 OneTablePromise = (M M′ : Model) → Proper M → Proper M′ → (k m m′ : ℕ) (t : List ℕ) → ((x : ℕ) → M .home (length t) x ≡ M′ .home (length t) x)
     → openReply M k m t ≡ Accepted → openReply M′ k m′ t ≡ Accepted → (cs cs′ : List Call)
     → ((v : ℕ) → In v (after M k m t cs .ordered) ↔ In v (after M′ k m′ t cs′ .ordered))
-    → after M k m t cs .phase .shut ≡ true → after M′ k m′ t cs′ .phase .shut ≡ true
+    → after M k m t cs .closed ≡ true → after M′ k m′ t cs′ .closed ≡ true
     → after M k m t cs .table ≡ after M′ k m′ t cs′ .table
 
 -- ---- two turns, for any phase states and tables

@@ -86,7 +86,7 @@ with-shut p b = record { kind = p .kind; length = p .length; crew = p .crew; lef
 
 -- a phase with its table, and nothing counted
 abbrev bare : Phase → List ℕ → History
-bare p t = record { table = t; phase = p; ordered = []; pending = []; said = []; counted = 0 }
+bare p t = record { table = t; phase = p; ordered = []; pending = []; said = []; counted = 0; closed = false }
 
 module _ {ops workers keys : List ℕ} {p₀ : Phase} {t₀ out₀ : List ℕ} {i : ℕ} {p : Phase} {t out : List ℕ} (h : InPlace ops workers keys p₀ t₀ out₀ i p t out) where
   pub some-cells : 0 < p .length

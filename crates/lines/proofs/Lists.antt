@@ -10,7 +10,8 @@ use lib.Seq.{append-snoc, set-append-seam, take-append-seam}
 use Rattle.text.specs.Numbers.{greatestNumber, longestNumber, valueOf, isNumber}
 use Rattle.text.specs.Digits.{digitsOf}
 use Rattle.text.proofs.Test.{by-test, by-lt, both-true}
-use Rattle.text.proofs.Fields.{Tabless, width}
+use Rattle.text.specs.Promise.{Tabless}
+use Rattle.text.proofs.Fields.{width}
 use Rattle.text.proofs.Values.{number-parts}
 use Rattle.text.proofs.Digits.{number-of-digits, tabless-digits, number-back, short-number}
 use Rattle.lines.specs.Grammar.{mostNumbers, padded, numbered, unreadable, areNumbers, numbersOf}

@@ -8,7 +8,7 @@ use Rattle.state.specs.declared.Replied.{Replied}
 use Rattle.protocol.specs.Calls.{closeCall, orderCall, turnCall, turnTable}
 use Rattle.protocol.specs.declared.Turned.{Turned}
 use Rattle.history.specs.History.{order, turn, close, call}
-use Rattle.history.proofs.Keeping.{order-phase, order-table, turn-phase, turn-table}
+use Rattle.history.proofs.Keeping.{order-phase, order-table, turn-phase, turn-table, close-phase, close-table}
 use Rattle.numbered.specs.Numbers.{turnAnswer, replyAnswer}
 use Rattle.numbered.specs.Lists.{answerOf, Applies}
 
@@ -29,7 +29,12 @@ module _ (M : Model) (p : Phase) (t : List ℕ) where
   unfolding call answerOf
   close-applies a r is number s same-phase same-table =
       let e : r ≡ closeCall M (s .phase) = is ∙ ap (λ (q : Phase). closeCall M q) (sym same-phase) in
-      record { phase = ap (λ (x : Replied). x .phase) e; answer = number ∙ ap (λ (x : Replied). replyAnswer (x .reply)) e; table = sym same-table }
+      let now = closeCall M (s .phase) in
+      record {
+        phase = ap (λ (x : Replied). x .phase) e ∙ sym (close-phase (now .phase) (now .reply) s);
+        answer = number ∙ ap (λ (x : Replied). replyAnswer (x .reply)) e;
+        table = sym same-table ∙ sym (close-table (now .phase) (now .reply) s);
+      }
 
   pub turn-applies : (w a : ℕ) (r : Turned) (t′ : List ℕ) → r ≡ turnCall M p t w → t′ ≡ turnTable M p t w → a ≡ turnAnswer (r .reply)
       → Applies M p t (turn w) (record { phase = r .phase; answer = a }) t′

@@ -13,4 +13,4 @@ use Rattle.numbered.specs.Examples.{BatchesPromise}
 
 pub batches-promise : BatchesPromise
 unfolding sameTable callsOf answerOf answersOf call run isWellFormed rule insertStep findStep deleteStep isSound all some clear dist probe prev wrap count
-batches-promise = ((refl, same-table _ _ tt), ((refl, same-table _ _ tt), (refl, same-table _ _ tt)))
+batches-promise = ((refl, same-table _ _ tt), ((refl, same-table _ _ tt), ((refl, same-table _ _ tt), ((refl, same-table _ _ tt), ((refl, same-table _ _ tt), (refl, same-table _ _ tt))))))

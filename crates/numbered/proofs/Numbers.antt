@@ -74,6 +74,10 @@ pub numbers-promise : NumbersPromise
 numbers-promise = record {
   refusal = λ r. (refl, known r .1);
   word = λ a. said a .1;
+  accepted = refl;
+  reply = λ r. refl;
+  turn = λ r. refl;
+  answered = λ a. refl;
   went-on = refl;
   finished = refl;
   yes′ = refl;

@@ -10,11 +10,10 @@ use Rattle.state.specs.declared.Refusal.{Refusal}
 use Rattle.state.specs.declared.Replied.{Replied}
 use Rattle.state.specs.declared.Reply.{Reply}
 use Rattle.state.specs.declared.Reply.the-variants.{Accepted, Refused}
-use Rattle.history.specs.History.{Call, run, opening}
-use Rattle.history.specs.Promise.{Claim}
+use Rattle.history.specs.History.{run, opening}
 use Rattle.history.proofs.Theorem.{history}
 use Rattle.numbered.specs.Lists.{callsLent, answersOf, RunGives, RunsFrom}
-use Rattle.numbered.specs.Batch.{ifAccepted, Ran, Promised}
+use Rattle.numbered.specs.Batch.{ifAccepted, dealt, Ran, Promised}
 
 module _ (M : Model) (k m : ℕ) (t : List ℕ) where
   opened-reply : (r : Reply) → opened M k m t r .reply ≡ r
@@ -45,9 +44,9 @@ module _ (M : Model) (k m : ℕ) (t : List ℕ) where
     refused-ran why read =
         dealt-ran (Refused why) (o .phase) t out read (record { phase = ap (λ (x : Replied). x .phase) is; table = refl; answers = refl })
 
--- every list of calls after an accepted opening keeps the promises
-promised : (k m : ℕ) (t : List ℕ) (cs : List Call) → openReply gateway k m t ≡ Accepted → Claim gateway k m t cs
-promised k m t cs accepted = history gateway gateway-proper k m t accepted cs
+-- the calls after an accepted opening keep the promises
+promised : (k m : ℕ) (t ops workers keys out : List ℕ) → Promised gateway k m t ops workers keys out
+promised k m t ops workers keys out accepted = history gateway gateway-proper k m t accepted (dealt gateway k m t ops workers keys out)
 
 -- ---- what a function that opens a phase and runs the calls has to show
 module _ (k m : ℕ) (t ops workers keys out : List ℕ) (o : Replied) (is : o ≡ openCall gateway k m t) where
@@ -56,7 +55,7 @@ module _ (k m : ℕ) (t ops workers keys out : List ℕ) (o : Replied) (is : o �
 
   pub accepted-kept : (p : Phase) (t′ out′ : List ℕ) → o .reply ≡ Accepted → RunsFrom gateway (o .phase) t (callsLent ops workers keys out) out p t′ out′
       → Kept (record { phase = p; reply = Accepted }) t′ out′
-  accepted-kept p t′ out′ read h = (accepted-ran gateway k m t ops workers keys out o is p t′ out′ read h, promised k m t _)
+  accepted-kept p t′ out′ read h = (accepted-ran gateway k m t ops workers keys out o is p t′ out′ read h, promised k m t ops workers keys out)
 
   pub refused-kept : (why : Refusal) → o .reply ≡ Refused why → Kept (record { phase = o .phase; reply = Refused why }) t out
-  refused-kept why read = (refused-ran gateway k m t ops workers keys out o is why read, promised k m t _)
+  refused-kept why read = (refused-ran gateway k m t ops workers keys out o is why read, promised k m t ops workers keys out)

@@ -3,18 +3,30 @@ use mathlib.Core.Path.{_≡_, refl, sym, ap, _∙_}
 use mathlib.Core.List.{List, [], _∷_, _++_, append-assoc}
 use Prim.Native.Nat.{ℕ, zero, suc, _+_, _<_}
 use native.Mathlib.Numerals.{add-one}
+use native.Mathlib.Omega.{arith}
 use lib.ListN.{length, getD, set, drop, length-append}
 use lib.Seq.{drop-cons, set-at}
+use borrow.Author.Tests.{ne-eqb}
 use Rattle.state.specs.Model.{Model}
 use Rattle.state.specs.declared.Phase.{Phase}
 use Rattle.history.specs.History.{Call, History, call, run}
 use Rattle.history.proofs.Lists.{run-last}
-use Rattle.numbered.specs.Lists.{callOf, callsOf, answerOf, answersOf, Applied, Applies, RunsFrom}
+use Rattle.numbered.specs.Lists.{callOf, callsOf, fewest, callsLent, CallsPromise, answerOf, answersOf, Applied, Applies, RunsFrom}
 
 length-calls : (ops workers keys : List ℕ) (i : ℕ) → length (callsOf ops workers keys i) ≡ i
 unfolding callsOf
 length-calls ops workers keys zero = refl
 length-calls ops workers keys (suc i) = length-append (callsOf ops workers keys i) _ ∙ add-one _ ∙ ap suc (length-calls ops workers keys i)
+
+pub calls-promise : CallsPromise
+calls-promise = record {
+  orders = λ w v. refl;
+  turns = λ w v. refl;
+  closes = λ op w v a b. rw (ne-eqb op 1 a, ne-eqb op 2 b);
+  many = λ ops workers keys out n.
+      let e : length (callsLent ops workers keys out) ≡ fewest ops workers keys out = length-calls ops workers keys _ in
+      (λ l. (omega (arith, e), omega (arith, e), omega (arith, e), omega (arith, e)), λ (a, b, c, d). omega (arith, e));
+}
 
 module _ (M : Model) where
   answers-last : (cs : List Call) (c : Call) (s : History)

@@ -54,6 +54,20 @@ lookingUp = record {
 abbrev pub unopened : Batch
 unopened = record { kind = 4; crew = 1; table = 6 ∷ 3 ∷ 0 ∷ []; ops = 3 ∷ []; workers = 0 ∷ []; keys = 0 ∷ []; out = 77 ∷ []; closed = 6 ∷ 3 ∷ 0 ∷ []; answers = 77 ∷ [] }
 
+-- look-ups where one of the lists lent is the shortest; a number that is neither 1 nor 2 closes, here refused since the order is unfinished
+abbrev pub lent : (ops workers keys answers : List ℕ) → Batch
+lent ops workers keys answers = record {
+  kind = 3;
+  crew = 1;
+  table = 6 ∷ 3 ∷ 0 ∷ [];
+  ops = ops;
+  workers = workers;
+  keys = keys;
+  out = 77 ∷ 77 ∷ 77 ∷ [];
+  closed = 6 ∷ 3 ∷ 0 ∷ [];
+  answers = answers;
+}
+
 module _ (b : Batch) where
   abbrev pub Leaves : Type 0
   Leaves =
@@ -62,4 +76,7 @@ module _ (b : Batch) where
       × (answersOf gateway cs (opening gateway (b .kind) (b .crew) (b .table)) ++ drop (length cs) (b .out) ≡ b .answers)
 
 abbrev pub BatchesPromise : Type 0
-BatchesPromise = Leaves puttingIn × (Leaves lookingUp × Leaves unopened)
+BatchesPromise = Leaves puttingIn × (Leaves lookingUp × (Leaves unopened
+    × (Leaves (lent (1 ∷ []) (0 ∷ 0 ∷ 0 ∷ []) (3 ∷ 0 ∷ 0 ∷ []) (0 ∷ 77 ∷ 77 ∷ []))
+    × (Leaves (lent (1 ∷ 9 ∷ 2 ∷ []) (0 ∷ 0 ∷ []) (3 ∷ 0 ∷ 0 ∷ []) (0 ∷ refused 10 ∷ 77 ∷ []))
+    × Leaves (lent (1 ∷ 2 ∷ 2 ∷ []) (0 ∷ 0 ∷ 0 ∷ []) (3 ∷ []) (0 ∷ 77 ∷ 77 ∷ []))))))

@@ -1,8 +1,9 @@
 -- Lists of calls given as numbers, and the numbers of their answers.
 use mathlib.Core.Path.{_≡_}
+use mathlib.Core.Logic.{_≢_, _↔_}
 use mathlib.Core.Bool.{cond}
 use mathlib.Core.List.{List, [], _∷_, _++_}
-use Prim.Native.Nat.{ℕ, zero, suc, min}
+use Prim.Native.Nat.{ℕ, zero, suc, min, _≤_}
 use lib.Dec.{eqb}
 use lib.ListN.{length, getD, drop}
 use Rattle.state.specs.Model.{Model}
@@ -27,6 +28,15 @@ fewest ops workers keys out = min (min (length ops) (length workers)) (min (leng
 
 abbrev pub callsLent : (ops workers keys out : List ℕ) → List Call
 callsLent ops workers keys out = callsOf ops workers keys (fewest ops workers keys out)
+
+-- what is promised of them. Proved in proofs/Running
+pub record CallsPromise : Type 0 where
+  pub orders : (w v : ℕ) → callOf 1 w v ≡ order w v
+  pub turns : (w v : ℕ) → callOf 2 w v ≡ turn w
+  pub closes : (op w v : ℕ) → op ≢ 1 → op ≢ 2 → callOf op w v ≡ close
+  -- there are as many calls as each of the four lists has places, and no more
+  pub many : (ops workers keys out : List ℕ) (n : ℕ)
+      → (n ≤ length (callsLent ops workers keys out)) ↔ ((n ≤ length ops) × (n ≤ length workers) × (n ≤ length keys) × (n ≤ length out))
 
 -- ---- answers as numbers
 -- a phase with the number of the answer of the call that gave it

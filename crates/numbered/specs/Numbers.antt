@@ -47,6 +47,11 @@ pub record NumbersPromise : Type 0 where
   -- a refusal's number is 2³² and its number of document 01, and below 2³³; a word's is one of the five above 2³³
   pub refusal : (r : Refusal) → (refusalAnswer r ≡ 2 ^ 32 + numberOf r) × (refusalAnswer r < 2 ^ 33)
   pub word : (a : Answer) → (2 ^ 33 < stepAnswer a) × (stepAnswer a ≤ 2 ^ 33 + 5)
+  -- so is the refusal of any call; an accepted call that gives no value answers 0
+  pub accepted : replyAnswer Accepted ≡ 0
+  pub reply : (r : Refusal) → replyAnswer (Refused r) ≡ 2 ^ 32 + numberOf r
+  pub turn : (r : Refusal) → turnAnswer (turnReply.Refused r) ≡ 2 ^ 32 + numberOf r
+  pub answered : (a : Answer) → turnAnswer (turnReply.Answered a) ≡ stepAnswer a
   -- which word is which
   pub went-on : stepAnswer WentOn ≡ 2 ^ 33 + 1
   pub finished : stepAnswer Finished ≡ 2 ^ 33 + 2

@@ -3,17 +3,14 @@ use mathlib.Core.Path.{_≡_, ap, _∙_}
 use mathlib.Core.List.{List}
 use Prim.Native.Nat.{ℕ, _+_, _<_}
 use native.Mathlib.Omega.{arith}
-use lib.ListN.{length, getD, set, replicate, length-replicate, getD-replicate, List·getD-eq-default}
+use lib.ListN.{length, getD, set, replicate}
 use lib.Seq.{getD-set-same, getD-set-other}
 use Rattle.ring.specs.Counting.{over}
 use Rattle.ring.proofs.Counting.{tally-none, over-set}
-use Rattle.ring.proofs.Split.{by-lt, by-eq}
+use Rattle.ring.proofs.Split.{by-eq}
 use Rattle.activities.specs.declared.Activity.{Activity}
 use Rattle.activities.specs.declared.Activity.the-variants.{Idle}
-
--- a list of n equal elements
-pub replicate-at {ℓ} : {A : Type ℓ} (a : A) (n i : ℕ) → getD (replicate n a) i a ≡ a
-replicate-at a n i = by-lt i n (getD-replicate n i a a) (λ l. List·getD-eq-default (replicate n a) a (omega (arith, length-replicate n a)))
+use Rattle.rule.proofs.Crew.{replicate-at}
 
 pub crew-idle : (W w : ℕ) → getD (replicate W Idle) w Idle ≡ Idle
 crew-idle = replicate-at Idle

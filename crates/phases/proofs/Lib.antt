@@ -1,6 +1,5 @@
 pub mod Crew
 pub mod Events
-pub mod Finishing
 pub mod Formed
 pub mod Formula
 pub mod Rounds

@@ -25,6 +25,11 @@ mostSteps n W K = K * ((W * (5 * n + 2) + 1) * ((n + 1) * (W * (W + 1) ^ suc W +
 abbrev pub mostRest : ℕ → ℕ → ℕ
 mostRest n W = mostSteps n W (2 * W + 1)
 
+-- the formula, computed: without operations no step is counted; two workers with one operation each on five cells
+pub record FormulaPromise : Type 0 where
+  pub none : (n W : ℕ) → mostSteps n W 0 ≡ 1
+  pub five : mostSteps 5 2 2 ≡ 37345
+
 -- ---- what holds after a list of events of any kind
 pub record Always (k n W : ℕ) (s : Run) : Type 0 where
   pub sized : length (s .table) ≡ n

@@ -26,8 +26,8 @@ fn put_refusal(out: &mut [u8], at: usize, why: Refusal) -> usize
     requires { ⌜ at + replyWidth ≤ length (now out) ⌝ }
     ensures { λ r. ⌜ Printed (refusalFields why) (now (out .entry)) at (now (out .exit)) r ⌝ }
 {
-    let behind = text::put_bytes(out, at, b"\trefused\t");
-    text::put_number(out, behind, why.number() as u64)
+    let behind = writing::put_bytes(out, at, b"\trefused\t");
+    writing::put_number(out, behind, why.number() as u64)
 }
 
 pub fn put_reply(out: &mut [u8], at: usize, reply: Reply) -> usize
@@ -35,7 +35,7 @@ pub fn put_reply(out: &mut [u8], at: usize, reply: Reply) -> usize
     ensures { λ r. ⌜ Printed (replyFields reply) (now (out .entry)) at (now (out .exit)) r ⌝ }
 {
     match reply {
-        Reply::Accepted => text::put_bytes(out, at, b"\tok"),
+        Reply::Accepted => writing::put_bytes(out, at, b"\tok"),
         Reply::Refused(why) => put_refusal(out, at, why),
     }
 }
@@ -45,11 +45,11 @@ fn put_answer(out: &mut [u8], at: usize, answer: Answer) -> usize
     ensures { λ r. ⌜ Printed (field (answerWord answer)) (now (out .entry)) at (now (out .exit)) r ⌝ }
 {
     match answer {
-        Answer::WentOn => text::put_bytes(out, at, b"\ton"),
-        Answer::Finished => text::put_bytes(out, at, b"\tdone"),
-        Answer::Yes => text::put_bytes(out, at, b"\tyes"),
-        Answer::No => text::put_bytes(out, at, b"\tno"),
-        Answer::Idle => text::put_bytes(out, at, b"\tidle"),
+        Answer::WentOn => writing::put_bytes(out, at, b"\ton"),
+        Answer::Finished => writing::put_bytes(out, at, b"\tdone"),
+        Answer::Yes => writing::put_bytes(out, at, b"\tyes"),
+        Answer::No => writing::put_bytes(out, at, b"\tno"),
+        Answer::Idle => writing::put_bytes(out, at, b"\tidle"),
     }
 }
 
@@ -68,7 +68,7 @@ fn put_finish(out: &mut [u8], at: usize, ended: Ended) -> usize
     ensures { λ r. ⌜ Printed (field (finishWord ended)) (now (out .entry)) at (now (out .exit)) r ⌝ }
 {
     match ended {
-        Ended::Nothing => text::put_bytes(out, at, b"\t-"),
+        Ended::Nothing => writing::put_bytes(out, at, b"\t-"),
         Ended::Finished => put_answer(out, at, Answer::Finished),
         Ended::Yes => put_answer(out, at, Answer::Yes),
         Ended::No => put_answer(out, at, Answer::No),
@@ -98,8 +98,8 @@ fn put_field(out: &mut [u8], at: usize, number: u64) -> usize
     requires { ⌜ at + length (field (digitsOf number)) ≤ length (now out) ⌝ }
     ensures { λ r. ⌜ Printed (field (digitsOf number)) (now (out .entry)) at (now (out .exit)) r ⌝ }
 {
-    let behind = text::put_bytes(out, at, b"\t");
-    text::put_number(out, behind, number)
+    let behind = writing::put_bytes(out, at, b"\t");
+    writing::put_number(out, behind, number)
 }
 
 // The key of a cell, if it holds one.

@@ -1,14 +1,16 @@
 -- A sequence of refusals decides as its cases say: each test is known by what it says where it holds and where it does not, and the numbers are distinct.
 use mathlib.Core.Path.{_≡_, refl, _∙_}
-use mathlib.Core.Logic.{_↔_}
+use mathlib.Core.Logic.{_≢_, _↔_}
 use mathlib.Core.Bool.{Bool, true, false, not, cond}
 use mathlib.Core.List.{List, [], _∷_}
 use Prim.Native.Nat.{ℕ}
+use native.Mathlib.Omega.{arith}
 use lib.Dec.{eqb}
 use borrow.Author.Tests.{not-true, not-false, eq-eqb}
 use Rattle.ring.proofs.Tests.{tested, by-test, not-both}
 use Rattle.state.specs.Refusals.{numberOf, replyNumber, Bar, firstOf}
 use Rattle.state.specs.declared.Refusal.{Refusal}
+use Rattle.state.specs.declared.Refusal.the-variants.{Size, Crew, Kind, Unsound, OtherTable, NoWorker, Blank, Busy, Full, Working, Shut, ShortList, Spoilt}
 use Rattle.state.specs.declared.Reply.{Reply}
 use Rattle.state.specs.declared.Reply.the-variants.{Accepted, Refused}
 use Rattle.protocol.specs.Cases.{Case, DecidesFrom, Decides}
@@ -124,3 +126,23 @@ decides c d r is = decides-from c (Unit {0}) r d (λ _. is) (λ _. tt)
 pub by-reply {ℓ} : {C : Type ℓ} (r : Reply) → (r ≡ Accepted → C) → ((q : Refusal) → r ≡ Refused q → C) → C
 by-reply Accepted f g = f refl
 by-reply (Refused q) f g = g q refl
+
+-- no refusal has the number 0, so a call with that number is accepted
+refusal-number : (q : Refusal) → numberOf q ≢ 0
+refusal-number Size e = omega arith
+refusal-number Crew e = omega arith
+refusal-number Kind e = omega arith
+refusal-number Unsound e = omega arith
+refusal-number OtherTable e = omega arith
+refusal-number NoWorker e = omega arith
+refusal-number Blank e = omega arith
+refusal-number Busy e = omega arith
+refusal-number Full e = omega arith
+refusal-number Working e = omega arith
+refusal-number Shut e = omega arith
+refusal-number ShortList e = omega arith
+refusal-number Spoilt e = omega arith
+
+pub none-accepted : (r : Reply) → replyNumber r ≡ 0 → r ≡ Accepted
+none-accepted Accepted e = refl
+none-accepted (Refused q) e = absurd (refusal-number q e)

@@ -1,11 +1,14 @@
--- A call keeps a well-formed phase state well formed, also one that no opening and no calls lead to.
-use mathlib.Core.Path.{_≡_}
+-- A call keeps a well-formed phase state well formed, also one that no opening and no calls lead to; and what an opening hands back is well formed.
+use mathlib.Core.Path.{_≡_, sym, ap, _∙_}
+use mathlib.Core.Logic.{_≢_}
+use mathlib.Core.Bool.{true, false}
 use mathlib.Core.List.{List}
 use Prim.Native.Nat.{ℕ, _≤_, _<_}
 use native.Mathlib.Omega.{arith}
 use lib.Dec.{eqb}
 use lib.ListN.{length, getD, set}
 use lib.Seq.{getD-set-same, getD-set-other, set-out}
+use Rattle.ring.proofs.Counting.{count-le}
 use Rattle.ring.proofs.Split.{by-lt, by-eq}
 use Rattle.ring.proofs.Tests.{tested}
 use Rattle.activities.specs.Activities.{idle, Suits}
@@ -16,14 +19,18 @@ use Rattle.rule.specs.Rule.{touched, start}
 use Rattle.rule.specs.declared.Place.{Place}
 use Rattle.rule.specs.declared.Place.the-variants.{Nowhere, At}
 use Rattle.rule.proofs.Suits.{rule-suits}
-use Rattle.state.specs.Model.{Model}
+use Rattle.state.specs.Model.{Model, Proper, gateway}
+use Rattle.state.specs.Open.{openCall}
+use Rattle.state.specs.Refusals.{replyNumber}
 use Rattle.state.specs.declared.Phase.{Phase}
+use Rattle.state.proofs.Model.{gateway-proper}
 use Rattle.protocol.specs.Bars.{doing}
 use Rattle.protocol.specs.Calls.{withWorker, closeReply, closeCall, orderReply, orderCall, turnCheck, movedAt, turnCall}
-use Rattle.protocol.specs.Promise.{KeepsPromise}
-use Rattle.protocol.specs.WellFormed.{WellFormed}
-use Rattle.protocol.proofs.Chain.{by-reply}
-use Rattle.protocol.proofs.Theorem.{order-passed, turn-passed}
+use Rattle.protocol.specs.Promise.{KeepsPromise, opened, ordered, turned, closed, NeverSpoiltPromise, PlacesPromise, GatewayNeverSpoilt, Openings, Framed}
+use Rattle.protocol.specs.WellFormed.{Size, Crew, WellFormed}
+use Rattle.protocol.proofs.Chain.{by-reply, none-accepted}
+use Rattle.protocol.proofs.Opening.{resting-formed}
+use Rattle.protocol.proofs.Theorem.{open-passed, opens, order-passed, orders, turn-passed, turns, closes}
 
 -- ---- the phase state, with one worker changed
 -- what holds of every worker holds after a change of one, if it holds of what that one does now
@@ -80,3 +87,45 @@ keeps M proper p good =
       turn = turn-keeps M p good;
       close = close-keeps M p good;
     }
+
+-- ---- openings, accepted or refused
+open-formed : (M : Model) → Proper M → Size M 2 → Crew M 1 → (k m : ℕ) (t : List ℕ) → WellFormed M (openCall M k m t .phase)
+open-formed M proper two one k m t = by-eq (replyNumber (openCall M k m t .reply)) 0
+    (λ z.
+    let (size, crew, kind, _) = open-passed M k m t (sym (o .reply) ∙ none-accepted (openCall M k m t .reply) z) in
+    let some = proper .some in
+    let few = count-le (λ x. eqb x 0) t in
+    let left : q .left < length t = by-eq k 1 (λ is. omega (arith, o .insert-left z is)) (λ ne. omega (arith, o .other-left z ne)) in
+    resting-formed M k (length t) m false q kind size crew left (o .accepted z))
+    (λ z. resting-formed M 3 2 1 true q (omega arith) two one (omega (arith, o .refused-left z)) (o .refused z))
+  where
+    o : Openings M k m t
+    o = opens M k m t
+
+    q : Phase
+    q = openCall M k m t .phase
+
+-- ---- and later calls
+pub never-spoilt : NeverSpoiltPromise
+never-spoilt M proper two one p (opened k m t) = open-formed M proper two one k m t
+never-spoilt M proper two one p (ordered q h w v) = keeps M proper q (never-spoilt M proper two one q h) .order w v
+never-spoilt M proper two one p (turned q h t w) = keeps M proper q (never-spoilt M proper two one q h) .turn t w
+never-spoilt M proper two one p (closed q h) = keeps M proper q (never-spoilt M proper two one q h) .close
+
+-- a call that is accepted keeps the places, and one that is refused changes nothing
+same-places : (p q : Phase) (number : ℕ) → (number ≡ 0 → Framed p q) → (number ≢ 0 → q ≡ p) → length (q .workers) ≡ length (p .workers)
+same-places p q number framed same =
+    by-eq number 0 (λ z. framed z .places) (λ z. ap (λ (x : Phase). length (x .workers)) (same z))
+
+pub places : PlacesPromise
+places M p (opened k m t) =
+    let o = opens M k m t in
+    by-eq (replyNumber (openCall M k m t .reply)) 0 (λ z. o .accepted z .places) (λ z. o .refused z .places)
+places M p (ordered q h w v) = let o = orders M q w v in
+    same-places q _ (replyNumber (orderCall M q w v .reply)) (λ z. o .accepted z .others .frame) (o .refused) ∙ places M q h
+places M p (turned q h t w) = turns M q t w .others .frame .places ∙ places M q h
+places M p (closed q h) = let o = closes M q in
+    same-places q _ (replyNumber (closeCall M q .reply)) (λ z. o .accepted z .frame) (o .refused) ∙ places M q h
+
+pub gateway-never-spoilt : GatewayNeverSpoilt
+gateway-never-spoilt = never-spoilt gateway gateway-proper (omega arith) (omega arith)

@@ -1,8 +1,13 @@
+pub mod Answering
 pub mod Calls
 pub mod Chain
+pub mod Frames
 pub mod Keeping
+pub mod Opening
 pub mod Ordering
+pub mod Split
 pub mod Theorem
 pub mod Turning
 pub mod Walk
 pub mod WellFormed
+pub mod Writing

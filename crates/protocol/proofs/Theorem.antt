@@ -1,47 +1,86 @@
 -- The promises on refusals.
-use mathlib.Core.Path.{_≡_, refl, _∙_, ap}
+use mathlib.Core.Path.{_≡_, refl, sym, _∙_, ap}
 use mathlib.Core.Logic.{_≢_}
-use mathlib.Core.Bool.{false}
+use mathlib.Core.Bool.{true, false}
 use mathlib.Core.List.{List}
 use Prim.Native.Nat.{ℕ, _<_}
+use native.Mathlib.Omega.{arith}
 use lib.ListN.{length}
-use borrow.Author.Tests.{lt-leb, eq-eqb}
 use Rattle.ring.proofs.Split.{by-lt}
+use Rattle.activities.specs.Kinds.{allowance}
 use Rattle.activities.specs.declared.Activity.the-variants.{Idle}
+use Rattle.activities.proofs.Activities.{cells-below}
+use Rattle.rule.specs.Rule.{touched}
+use Rattle.rule.specs.declared.Answer.{Answer}
+use Rattle.rule.specs.declared.Answer.the-variants.{Yes, No}
+use Rattle.rule.specs.declared.Place.the-variants.{At}
+use Rattle.rule.proofs.Suits.{touched-below}
 use Rattle.state.specs.Model.{Model}
-use Rattle.state.specs.Open.{openReply}
+use Rattle.state.specs.Open.{openReply, openCall}
 use Rattle.state.specs.Refusals.{replyNumber}
 use Rattle.state.specs.declared.Phase.{Phase}
-use Rattle.state.specs.declared.Reply.the-variants.{Accepted}
+use Rattle.state.specs.declared.Refusal.{Refusal}
+use Rattle.state.specs.declared.Reply.the-variants.{Accepted, Refused}
 use Rattle.protocol.specs.Bars.{doing}
-use Rattle.protocol.specs.Calls.{turnNumber, closeReply, closeCall, orderReply, orderCall, turnCheck, turnCall}
-use Rattle.protocol.specs.Promise.{SoundTable, UsedUp, WellFormedPromise, OpenPromise, OrderPromise, TurnPromise, ClosePromise}
+use Rattle.protocol.specs.Calls.{turnNumber, closeReply, closeCall, orderReply, orderCall, turnCheck, movedAt, turnCall}
+use Rattle.protocol.specs.Cases.{Decides}
+use Rattle.protocol.specs.Promise.{SoundTable, openCases, UsedUp, orderCases, Answers, turnCases, WellFormedPromise, OpenPromise, OrderPromise, TurnPromise, ClosePromise}
 use Rattle.protocol.specs.WellFormed.{Size, Crew, Kind, WellFormed}
+use Rattle.protocol.specs.declared.TurnReply.the-variants.{Answered}
+use Rattle.protocol.proofs.Answering.{moved-answers, moved-yes, moved-no}
 use Rattle.protocol.proofs.Calls.{openSteps, orderSteps, turnSteps, turn-number, closeSteps}
-use Rattle.protocol.proofs.Chain.{decides, by-reply}
+use Rattle.protocol.proofs.Chain.{decides, by-reply, none-accepted}
+use Rattle.protocol.proofs.Frames.{but-self, ordered-starts, shut-ends, moved-others, moved-left}
+use Rattle.protocol.proofs.Opening.{fresh-resting, insert-allowance, other-allowance}
 use Rattle.protocol.proofs.WellFormed.{well-formed-says}
+use Rattle.protocol.proofs.Writing.{cells-written, cells-inserted, cells-deleted}
 
 pub well-formed : WellFormedPromise
 well-formed = well-formed-says
 
 -- ---- open
+module _ (M : Model) (k m : ℕ) (t : List ℕ) where
+  open-reply : openCall M k m t .reply ≡ openReply M k m t
+  open-reply = by-reply (openReply M k m t) (λ e. rw e) (λ _ e. rw e)
+
+  open-number : replyNumber (openCall M k m t .reply) ≡ replyNumber (openReply M k m t)
+  open-number = ap replyNumber open-reply
+
+  open-decides : Decides (replyNumber (openCall M k m t .reply)) (openCases M k m t)
+  open-decides = decides (openSteps M k m t) refl (replyNumber (openCall M k m t .reply)) open-number
+
+  -- what an accepted opening has passed
+  pub open-passed : openReply M k m t ≡ Accepted → Size M (length t) × Crew M m × Kind k × SoundTable M t
+  open-passed e =
+      let (_, (_, (_, (_, none)))) = open-decides in
+      let ((((_, size), crew), kind), sound) = none .0 (open-number ∙ ap replyNumber e) in (size, crew, kind, sound)
+
+  open-refused {ℓ} : {C : Type ℓ} → replyNumber (openCall M k m t .reply) ≢ 0 → ((q : Refusal) → openReply M k m t ≡ Refused q → C) → C
+  open-refused z f = by-reply (openReply M k m t) (λ e. absurd (z (open-number ∙ ap replyNumber e))) f
+
+  open-accepted : replyNumber (openCall M k m t .reply) ≡ 0 → openReply M k m t ≡ Accepted
+  open-accepted z = none-accepted (openReply M k m t) (sym open-number ∙ z)
+
 pub opens : OpenPromise
 opens M k m t =
+    let ok = open-accepted M k m t in
     record {
-      answers = decides (openSteps M k m t) refl (replyNumber (openReply M k m t)) refl;
-      refused = λ z. by-reply (openReply M k m t) (λ e. absurd (z (ap replyNumber e))) (λ _ e. rw e);
+      reply = open-reply M k m t;
+      answers = open-decides M k m t;
+      refused = λ z. open-refused M k m t z (λ _ e. rw e (fresh-resting M 3 2 1 0 true));
+      refused-left = λ z. open-refused M k m t z (λ _ e. rw e);
+      accepted = λ z. rw (ok z) (fresh-resting M k (length t) m (allowance k t) false);
+      insert-left = λ z is. rw (ok z) (insert-allowance k (length t) (M .home (length t)) t (open-passed M k m t (ok z) .3) is);
+      other-left = λ z ne. rw (ok z) (other-allowance k t ne);
     }
-
--- what an accepted opening has passed
-pub open-passed : (M : Model) (k m : ℕ) (t : List ℕ) → openReply M k m t ≡ Accepted → Size M (length t) × Crew M m × Kind k × SoundTable M t
-open-passed M k m t e =
-    let (_, (_, (_, (_, none)))) = opens M k m t .answers in
-    let ((((_, size), crew), kind), sound) = none .0 (ap replyNumber e) in (size, crew, kind, sound)
 
 -- ---- order
 module _ (M : Model) (p : Phase) (w v : ℕ) where
   order-number : replyNumber (orderCall M p w v .reply) ≡ replyNumber (orderReply M p w v)
   order-number = by-reply (orderReply M p w v) (λ e. rw e) (λ _ e. rw e)
+
+  order-decides : Decides (replyNumber (orderCall M p w v .reply)) (orderCases M p w v)
+  order-decides = decides (orderSteps M p w v) refl (replyNumber (orderCall M p w v .reply)) order-number
 
   -- what an accepted order has passed
   pub record Passed : Type 0 where
@@ -52,40 +91,73 @@ module _ (M : Model) (p : Phase) (w v : ℕ) where
     pub key : v ≢ 0
     pub left : UsedUp p → ⊥
 
+  pub order-passed : orderReply M p w v ≡ Accepted → Passed
+  order-passed e =
+      let (_, (_, (_, (_, (_, (_, none)))))) = order-decides in
+      let ((((((_, formed), running), below), free), key), left) = none .0 (order-number ∙ ap replyNumber e) in
+      record { formed = formed; running = running; below = below; free = free; key = key; left = left }
+
 pub orders : OrderPromise
 orders M p w v =
+    let is = order-number M p w v in
     record {
-      answers = decides (orderSteps M p w v) refl (replyNumber (orderCall M p w v .reply)) (order-number M p w v);
-      refused = λ z. by-reply (orderReply M p w v) (λ e. absurd (z (order-number M p w v ∙ ap replyNumber e))) (λ _ e. rw e);
+      answers = order-decides M p w v;
+      refused = λ z. by-reply (orderReply M p w v) (λ e. absurd (z (is ∙ ap replyNumber e))) (λ _ e. rw e);
+      accepted = λ z.
+          let e = none-accepted (orderReply M p w v) (sym is ∙ z) in
+          rw e (ordered-starts M p w v (λ insert none. order-passed M p w v e .left (insert, none)));
     }
 
-pub order-passed : (M : Model) (p : Phase) (w v : ℕ) → orderReply M p w v ≡ Accepted → Passed M p w v
-order-passed M p w v e =
-    let (_, (_, (_, (_, (_, (_, none)))))) = orders M p w v .answers in
-    let ((((((_, formed), running), below), free), key), left) = none .0 (order-number M p w v ∙ ap replyNumber e) in
-    record { formed = formed; running = running; below = below; free = free; key = key; left = left }
-
 -- ---- turn
+module _ (M : Model) (p : Phase) (t : List ℕ) (w : ℕ) where
+  turn-decides : Decides (turnNumber (turnCall M p t w .reply)) (turnCases M p t w)
+  turn-decides = decides (turnSteps M p t w) refl (turnNumber (turnCall M p t w .reply)) (turn-number M p t w)
+
+  -- what a turn that is not refused has passed
+  pub turn-passed : turnCheck M p t w ≡ Accepted → WellFormed M p × (p .shut ≡ false) × (p .length ≡ length t) × (w < p .crew)
+  turn-passed e =
+      let (_, (_, (_, (_, none)))) = turn-decides in
+      let ((((_, f), running), cells), worker) = none .0 (turn-number M p t w ∙ ap replyNumber e) in (f, running, cells, worker)
+
+  turn-accepted : turnNumber (turnCall M p t w .reply) ≡ 0 → turnCheck M p t w ≡ Accepted
+  turn-accepted z = none-accepted (turnCheck M p t w) (sym (turn-number M p t w) ∙ z)
+
+  -- the cell that it touches is in the table
+  pub inside : (c : ℕ) → turnCheck M p t w ≡ Accepted → touched (doing p w) ≡ At c → c < length t
+  inside c e is =
+      let (formed, _, cells, below) = turn-passed e in
+      omega (arith, touched-below (p .length) (doing p w) c (cells-below (p .kind) (p .length) (doing p w) (formed .workers w below)) is)
+
+  -- a turn with an answer was accepted, and moved its worker
+  turn-answered {ℓ} : {C : Type ℓ} (r : Answer) → turnCall M p t w .reply ≡ Answered r
+      → (turnCheck M p t w ≡ Accepted → movedAt M p t w (touched (doing p w)) .reply ≡ Answered r → C) → C
+  turn-answered r e f = by-reply (turnCheck M p t w) (λ ok. f ok (rw ok at e)) (λ q no. absurd (let z : _≡_ {A = ℕ} 0 1 = cc in omega arith))
+
+  answer-told : (r : Answer) → turnCall M p t w .reply ≡ Answered r → Answers (p .kind) (doing p w) (doing (turnCall M p t w .phase) w) r
+  answer-told r e = turn-answered r e (λ ok f.
+      let (formed, _, _, below) = turn-passed ok in
+      rw ok (moved-answers M p t w (formed .kind) (formed .workers w below) (touched (doing p w)) refl r f))
+
 pub turns : TurnPromise
 turns M p t w =
     let is = turn-number M p t w in
-    let answers = decides (turnSteps M p t w) refl (turnNumber (turnCall M p t w .reply)) is in
+    let place = touched (doing p w) in
     record {
-      answers = answers;
+      answers = turn-decides M p t w;
       refused = λ z. by-reply (turnCheck M p t w) (λ e. absurd (z (is ∙ ap replyNumber e))) (λ _ e. rw e (refl, refl));
       idle = λ i. by-reply (turnCheck M p t w) (λ e. rw (e, i) (refl, refl)) (λ _ e. rw e (refl, refl));
-      idle-answer = λ i z.
-          let (_, (_, (_, (_, none)))) = answers in
-          let ((((_, f), running), cells), worker) = none .0 z in
-          rw (well-formed-says M p .1 f, running, eq-eqb (p .length) (length t) cells, lt-leb (p .crew) w worker, i);
+      idle-answer = λ i z. rw (turn-accepted M p t w z, i);
+      answered = answer-told M p t w;
+      says-yes = λ e c on. turn-answered M p t w Yes e (λ _ f. moved-yes M p t w c (rw on at f));
+      says-no = λ e c on. turn-answered M p t w No e (λ _ f. moved-no M p t w c (rw on at f));
+      writes = λ c ne. by-reply (turnCheck M p t w) (λ e. rw e (cells-written M p t w place refl c (rw e at ne))) (λ _ e. absurd (ne (rw e)));
+      inserts = λ z kind v i j x on held.
+          let e = turn-accepted M p t w z in rw e (cells-inserted M p t w v i j x on (inside M p t w i e (ap touched on)) kind held);
+      deletes = λ z kind v i j x on held.
+          let e = turn-accepted M p t w z in rw e (cells-deleted M p t w v i j x on (inside M p t w i e (ap touched on)) kind held);
+      others = by-reply (turnCheck M p t w) (λ e. rw e (moved-others M p t w place)) (λ _ e. rw e (but-self w p));
+      left = by-reply (turnCheck M p t w) (λ e. rw e (moved-left M p t w place)) (λ _ e. rw e);
     }
-
--- what a turn that is not refused has passed
-pub turn-passed : (M : Model) (p : Phase) (t : List ℕ) (w : ℕ) → turnCheck M p t w ≡ Accepted
-    → WellFormed M p × (p .shut ≡ false) × (p .length ≡ length t) × (w < p .crew)
-turn-passed M p t w e =
-    let (_, (_, (_, (_, none)))) = turns M p t w .answers in
-    let ((((_, f), running), cells), worker) = none .0 (turn-number M p t w ∙ ap replyNumber e) in (f, running, cells, worker)
 
 -- ---- close
 -- a busy worker of a well-formed phase state is below the count
@@ -113,6 +185,7 @@ closes M p =
         ),
       );
       refused = λ z. by-reply (closeReply M p) (λ e. absurd (z (close-number M p ∙ ap replyNumber e))) (λ _ e. rw e);
+      accepted = λ z. rw (none-accepted (closeReply M p) (sym (close-number M p) ∙ z)) (shut-ends p);
     }
 
 -- what an accepted close has passed

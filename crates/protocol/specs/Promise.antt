@@ -1,15 +1,22 @@
--- Demand 1 for the calls on a phase: each refusal is given in its cases and in no other, the first to apply wins, and a refusal changes nothing.
+-- Demand 1 for the calls on a phase: each refusal is given in its cases and in no other, the first to apply wins, and a refusal changes nothing. And
+-- what a call that is not refused answers, changes and leaves, field by field.
 use mathlib.Core.Path.{_≡_}
-use mathlib.Core.Logic.{_≢_, _↔_}
-use mathlib.Core.Bool.{true, false}
+use mathlib.Core.Logic.{_≢_, _↔_, _⊎_}
+use mathlib.Core.Bool.{Bool, true, false}
 use mathlib.Core.List.{List, [], _∷_, _++_}
-use Prim.Native.Nat.{ℕ, _≤_, _<_}
-use lib.ListN.{length}
-use Rattle.layout.specs.Sound.{Sound}
-use Rattle.activities.specs.declared.Activity.the-variants.{Idle}
+use Prim.Native.Nat.{ℕ, suc, _≤_, _<_}
+use lib.ListN.{length, getD}
+use Rattle.layout.specs.Sound.{Sound, vacant}
+use Rattle.activities.specs.Activities.{keyOf}
+use Rattle.activities.specs.declared.Activity.{Activity}
+use Rattle.activities.specs.declared.Activity.the-variants.{Idle, Reading, Replacing, WalkingBack, SeekingForward, SeekingBack}
+use Rattle.rule.specs.Rule.{touched}
+use Rattle.rule.specs.declared.Answer.{Answer}
+use Rattle.rule.specs.declared.Answer.the-variants.{WentOn, Finished, Yes, No}
 use Rattle.rule.specs.declared.Answer.the-variants as answer
-use Rattle.state.specs.Model.{Model, Proper}
-use Rattle.state.specs.Open.{openReply, openCall, refusedPhase}
+use Rattle.rule.specs.declared.Place.the-variants.{At}
+use Rattle.state.specs.Model.{Model, Proper, gateway}
+use Rattle.state.specs.Open.{openReply, openCall}
 use Rattle.state.specs.Refusals.{replyNumber}
 use Rattle.state.specs.declared.Phase.{Phase}
 use Rattle.protocol.specs.Bars.{doing}
@@ -32,6 +39,26 @@ pub record Keeps (M : Model) (p : Phase) : Type 0 where
 abbrev pub KeepsPromise : Type 0
 KeepsPromise = (M : Model) → Proper M → (p : Phase) → WellFormed M p → Keeps M p
 
+-- ---- no record made by an opening and later calls is ever spoilt
+-- made by an opening, accepted or refused, and later calls, each with any numbers and any table; the service call is the turn by its contract
+pub data Made (M : Model) : Phase → Type 0 where
+  opened : (k m : ℕ) (t : List ℕ) → Made M (openCall M k m t .phase)
+  ordered : (p : Phase) → Made M p → (w v : ℕ) → Made M (orderCall M p w v .phase)
+  turned : (p : Phase) → Made M p → (t : List ℕ) (w : ℕ) → Made M (turnCall M p t w .phase)
+  closed : (p : Phase) → Made M p → Made M (closeCall M p .phase)
+
+-- within limits that allow what a refused opening hands back, 2 cells and one worker
+abbrev pub NeverSpoiltPromise : Type 0
+NeverSpoiltPromise = (M : Model) → Proper M → Size M 2 → Crew M 1 → (p : Phase) → Made M p → WellFormed M p
+
+-- and it keeps the places for all workers that the model allows
+abbrev pub PlacesPromise : Type 0
+PlacesPromise = (M : Model) (p : Phase) → Made M p → length (p .workers) ≡ M .room
+
+-- in document 01's model, with nothing left to assume
+abbrev pub GatewayNeverSpoilt : Type 0
+GatewayNeverSpoilt = (p : Phase) → Made gateway p → WellFormed gateway p
+
 -- ---- open
 abbrev pub SoundTable : Model → List ℕ → Type 0
 SoundTable M t = Sound (length t) (M .home (length t)) t
@@ -46,9 +73,26 @@ soundCases M t = wants 4 (SoundTable M t) ∷ []
 abbrev pub openCases : Model → ℕ → ℕ → List ℕ → List Case
 openCases M k m t = sizeCases M t ++ wants 2 (Crew M m) ∷ wants 3 (Kind k) ∷ soundCases M t
 
+-- a phase state of kind k, length n and m workers, shut or not, with places for all workers that the model allows, and all of them idle
+pub record Resting (M : Model) (k n m : ℕ) (ended : Bool) (p : Phase) : Type 0 where
+  pub kind : p .kind ≡ k
+  pub cells : p .length ≡ n
+  pub crew : p .crew ≡ m
+  pub shut : p .shut ≡ ended
+  pub places : length (p .workers) ≡ M .room
+  pub rest : (w : ℕ) → doing p w ≡ Idle
+
 pub record Openings (M : Model) (k m : ℕ) (t : List ℕ) : Type 0 where
-  pub answers : Decides (replyNumber (openReply M k m t)) (openCases M k m t)
-  pub refused : replyNumber (openReply M k m t) ≢ 0 → openCall M k m t .phase ≡ refusedPhase M
+  pub reply : openCall M k m t .reply ≡ openReply M k m t
+  pub answers : Decides (replyNumber (openCall M k m t .reply)) (openCases M k m t)
+  -- a refused opening hands back a shut record of kind 3, length 2 and one worker, all idle
+  pub refused : replyNumber (openCall M k m t .reply) ≢ 0 → Resting M 3 2 1 true (openCall M k m t .phase)
+  pub refused-left : replyNumber (openCall M k m t .reply) ≢ 0 → openCall M k m t .phase .left ≡ 0
+  -- an accepted one an open record as it was asked for
+  pub accepted : replyNumber (openCall M k m t .reply) ≡ 0 → Resting M k (length t) m false (openCall M k m t .phase)
+  -- the orders that an insert phase takes are the empty cells at opening less one; outside insert phases 0 are left
+  pub insert-left : replyNumber (openCall M k m t .reply) ≡ 0 → k ≡ 1 → suc (openCall M k m t .phase .left) ≡ vacant t
+  pub other-left : replyNumber (openCall M k m t .reply) ≡ 0 → k ≢ 1 → openCall M k m t .phase .left ≡ 0
 
 abbrev pub OpenPromise : Type 0
 OpenPromise = (M : Model) (k m : ℕ) (t : List ℕ) → Openings M k m t
@@ -63,6 +107,20 @@ numberCases p w = case 6 (w < p .crew) (p .crew ≤ w) ∷ []
 abbrev pub entryCases : ℕ → List Case
 entryCases v = forbids 7 (v ≡ 0) ∷ []
 
+-- ---- what calls leave
+-- two phase states of one kind, length and worker count, with as many places for workers
+pub record Framed (p q : Phase) : Type 0 where
+  pub kind : q .kind ≡ p .kind
+  pub cells : q .length ≡ p .length
+  pub crew : q .crew ≡ p .crew
+  pub places : length (q .workers) ≡ length (p .workers)
+
+-- q is p but for worker w and the insert operations left
+pub record ButFor (w : ℕ) (p q : Phase) : Type 0 where
+  pub frame : Framed p q
+  pub shut : q .shut ≡ p .shut
+  pub others : (u : ℕ) → u ≢ w → doing q u ≡ doing p u
+
 -- ---- order
 -- an insert phase (put-in shift) with no operations (orders) left
 abbrev pub UsedUp : Phase → Type 0
@@ -71,9 +129,20 @@ UsedUp p = (p .kind ≡ 1) × (p .left ≡ 0)
 abbrev pub orderCases : Model → Phase → ℕ → ℕ → List Case
 orderCases M p w v = phaseCases M p ++ numberCases p w ++ wants 8 (doing p w ≡ Idle) ∷ entryCases v ++ forbids 9 (UsedUp p) ∷ []
 
+-- q is p after an accepted order of key v to worker w
+pub record Starts (M : Model) (p : Phase) (w v : ℕ) (q : Phase) : Type 0 where
+  pub others : ButFor w p q
+  -- the worker starts at its key's home. A list of workers has no fixed length; the code's array, and every list that calls make (`PlacesPromise`),
+  -- has a place for each worker
+  pub starts : w < length (p .workers) → doing q w ≡ Reading v (M .home (p .length) v)
+  -- an insert operation takes one of those left, any other none
+  pub takes-one : p .kind ≡ 1 → suc (q .left) ≡ p .left
+  pub takes-none : p .kind ≢ 1 → q .left ≡ p .left
+
 pub record Orders (M : Model) (p : Phase) (w v : ℕ) : Type 0 where
   pub answers : Decides (replyNumber (orderCall M p w v .reply)) (orderCases M p w v)
   pub refused : replyNumber (orderCall M p w v .reply) ≢ 0 → orderCall M p w v .phase ≡ p
+  pub accepted : replyNumber (orderCall M p w v .reply) ≡ 0 → Starts M p w v (orderCall M p w v .phase)
 
 abbrev pub OrderPromise : Type 0
 OrderPromise = (M : Model) (p : Phase) (w v : ℕ) → Orders M p w v
@@ -82,12 +151,46 @@ OrderPromise = (M : Model) (p : Phase) (w v : ℕ) → Orders M p w v
 abbrev pub turnCases : Model → Phase → List ℕ → ℕ → List Case
 turnCases M p t w = phaseCases M p ++ wants 5 (p .length ≡ length t) ∷ numberCases p w
 
+-- in a phase of kind k the turn of a worker that was doing a, and then does b, answers r
+pub record Answers (k : ℕ) (a b : Activity) (r : Answer) : Type 0 where
+  -- idle exactly for a worker that is idle
+  pub idle : r ≡ answer.Idle ↔ (a ≡ Idle)
+  -- of a worker with an unfinished operation: went on exactly if it stays unfinished, else finished, with yes or no in a find phase
+  pub on : r ≡ WentOn ↔ ((a ≢ Idle) × (b ≢ Idle))
+  pub finished : r ≡ Finished ↔ ((k ≢ 3) × (a ≢ Idle) × (b ≡ Idle))
+  pub told : ((r ≡ Yes) ⊎ (r ≡ No)) ↔ ((k ≡ 3) × (a ≢ Idle) × (b ≡ Idle))
+
+-- in a phase of kind k a worker doing a replaces the content of cell c: an insert writes its key over the content that it read there before, a delete
+-- writes the replacement that it took over its key
+abbrev pub Replaces : ℕ → Activity → ℕ → (before after : ℕ) → Type 0
+Replaces k Idle c before after = ⊥
+Replaces k (Reading v i) c before after = ⊥
+Replaces k (Replacing v i j x) c before after = (i ≡ c) × (((k ≡ 1) × (before ≡ x) × (after ≡ v)) ⊎ ((k ≡ 2) × (before ≡ v) × (after ≡ x)))
+Replaces k (WalkingBack v i) c before after = ⊥
+Replaces k (SeekingForward v i j) c before after = ⊥
+Replaces k (SeekingBack v i j x b) c before after = ⊥
+
 pub record Turns (M : Model) (p : Phase) (t : List ℕ) (w : ℕ) : Type 0 where
   pub answers : Decides (turnNumber (turnCall M p t w .reply)) (turnCases M p t w)
   pub refused : turnNumber (turnCall M p t w .reply) ≢ 0 → (turnCall M p t w .phase ≡ p) × (turnTable M p t w ≡ t)
   -- an idle worker's turn changes nothing; if it isn't refused it answers idle
   pub idle : doing p w ≡ Idle → (turnCall M p t w .phase ≡ p) × (turnTable M p t w ≡ t)
   pub idle-answer : doing p w ≡ Idle → turnNumber (turnCall M p t w .reply) ≡ 0 → turnCall M p t w .reply ≡ Answered answer.Idle
+  -- a turn answers as its worker's record before and after it says
+  pub answered : (r : Answer) → turnCall M p t w .reply ≡ Answered r → Answers (p .kind) (doing p w) (doing (turnCall M p t w .phase) w) r
+  -- yes if the cell holds the worker's key, else no
+  pub says-yes : turnCall M p t w .reply ≡ Answered Yes → (c : ℕ) → touched (doing p w) ≡ At c → getD t c 0 ≡ keyOf (doing p w)
+  pub says-no : turnCall M p t w .reply ≡ Answered No → (c : ℕ) → touched (doing p w) ≡ At c → getD t c 0 ≢ keyOf (doing p w)
+  -- a turn reads one cell, or compares one cell with a content read earlier and writes if they are equal: no other turn changes a cell
+  pub writes : (c : ℕ) → getD (turnTable M p t w) c 0 ≢ getD t c 0 → Replaces (p .kind) (doing p w) c (getD t c 0) (getD (turnTable M p t w) c 0)
+  -- and a replace turn that finds that content writes
+  pub inserts : turnNumber (turnCall M p t w .reply) ≡ 0 → p .kind ≡ 1 → (v i j x : ℕ) → doing p w ≡ Replacing v i j x → getD t i 0 ≡ x
+      → getD (turnTable M p t w) i 0 ≡ v
+  pub deletes : turnNumber (turnCall M p t w .reply) ≡ 0 → p .kind ≡ 2 → (v i j x : ℕ) → doing p w ≡ Replacing v i j x → getD t i 0 ≡ v
+      → getD (turnTable M p t w) i 0 ≡ x
+  -- refused or not, a turn leaves all of the phase state but its own worker
+  pub others : ButFor w p (turnCall M p t w .phase)
+  pub left : turnCall M p t w .phase .left ≡ p .left
 
 abbrev pub TurnPromise : Type 0
 TurnPromise = (M : Model) (p : Phase) (t : List ℕ) (w : ℕ) → Turns M p t w
@@ -100,9 +203,17 @@ Unfinished p = (w : ℕ) × (w < p .crew) × (doing p w ≢ Idle)
 abbrev pub closeCases : Model → Phase → List Case
 closeCases M p = phaseCases M p ++ case 10 ((w : ℕ) → doing p w ≡ Idle) (Unfinished p) ∷ []
 
+-- q is p after an accepted close: it is shut, and all else is as before
+pub record Ends (p q : Phase) : Type 0 where
+  pub frame : Framed p q
+  pub left : q .left ≡ p .left
+  pub shut : q .shut ≡ true
+  pub workers : q .workers ≡ p .workers
+
 pub record Closings (M : Model) (p : Phase) : Type 0 where
   pub answers : Decides (replyNumber (closeCall M p .reply)) (closeCases M p)
   pub refused : replyNumber (closeCall M p .reply) ≢ 0 → closeCall M p .phase ≡ p
+  pub accepted : replyNumber (closeCall M p .reply) ≡ 0 → Ends p (closeCall M p .phase)
 
 abbrev pub ClosePromise : Type 0
 ClosePromise = (M : Model) (p : Phase) → Closings M p

@@ -1,10 +1,11 @@
--- An order and a turn of one worker apart from its phase, for code that deals many calls. A turn that `turnCall` does not refuse is `oneTurn` of
--- that worker, and an order to a worker that an open, well-formed phase has is `oneOrder` of it (`turn-by-one`, `order-by-one` in proofs/).
-use mathlib.Core.Bool.{cond}
+-- An order and a turn of one worker apart from its phase, for code that deals many calls.
+use mathlib.Core.Path.{_≡_}
+use mathlib.Core.Bool.{false, cond}
 use mathlib.Core.List.{List}
-use Prim.Native.Nat.{ℕ, _-_}
+use Prim.Native.Nat.{ℕ, _-_, _<_}
 use lib.Dec.{eqb}
-use lib.ListN.{getD, set}
+use lib.ListN.{length, getD, set}
+use Rattle.activities.specs.Activities.{idle}
 use Rattle.activities.specs.declared.Worker.{Worker}
 use Rattle.rule.specs.declared.Answer.the-variants as answer
 use Rattle.rule.specs.declared.Place.{Place}
@@ -12,9 +13,12 @@ use Rattle.rule.specs.declared.Place.the-variants.{Nowhere, At}
 use Rattle.rule.specs.Rule.{touched, rule, start}
 use Rattle.state.specs.Model.{Model}
 use Rattle.state.specs.Refusals.{firstOf}
+use Rattle.state.specs.declared.Phase.{Phase}
 use Rattle.state.specs.declared.Reply.{Reply}
 use Rattle.state.specs.declared.Reply.the-variants.{Accepted, Refused}
 use Rattle.protocol.specs.Bars.{workerBars}
+use Rattle.protocol.specs.Calls.{withWorker, withLeft, orderCall, turnCall, turnTable}
+use Rattle.protocol.specs.WellFormed.{WellFormed}
 use Rattle.protocol.specs.declared.Given.{Given}
 use Rattle.protocol.specs.declared.Moved.{Moved}
 use Rattle.protocol.specs.declared.TurnReply.the-variants as turnReply
@@ -48,3 +52,18 @@ module _ (M : Model) (k n left : ℕ) (w : Worker) (v : ℕ) where
   -- the worker, the insert operations left and the answer after an order
   abbrev pub oneOrder : Given
   oneOrder = oneGiven oneReply
+
+-- ---- put back into a well-formed, open phase state that has the worker, they are the calls themselves
+pub record SplitTurn (M : Model) (p : Phase) (t : List ℕ) (w : ℕ) : Type 0 where
+  pub phase : turnCall M p t w .phase ≡ withWorker p w (oneTurn M (p .kind) (p .length) t (getD (p .workers) w idle) .worker .activity)
+  pub reply : turnCall M p t w .reply ≡ oneTurn M (p .kind) (p .length) t (getD (p .workers) w idle) .reply
+  pub table : turnTable M p t w ≡ oneTable M (p .kind) (p .length) t (getD (p .workers) w idle)
+
+pub record SplitOrder (M : Model) (p : Phase) (w v : ℕ) : Type 0 where
+  pub phase : orderCall M p w v .phase
+      ≡ (let one = oneOrder M (p .kind) (p .length) (p .left) (getD (p .workers) w idle) v in withLeft (withWorker p w (one .worker .activity)) (one .left))
+  pub reply : orderCall M p w v .reply ≡ oneOrder M (p .kind) (p .length) (p .left) (getD (p .workers) w idle) v .reply
+
+pub record SplitPromise : Type 0 where
+  pub turn : (M : Model) (p : Phase) → WellFormed M p → p .shut ≡ false → (t : List ℕ) → p .length ≡ length t → (w : ℕ) → w < p .crew → SplitTurn M p t w
+  pub order : (M : Model) (p : Phase) → WellFormed M p → p .shut ≡ false → (w : ℕ) → w < p .crew → (v : ℕ) → SplitOrder M p w v

@@ -1,7 +1,7 @@
 // Replays the shift sheet on standard input, a block of bytes at a time.
+use answering::Replay;
 use blocks::Carried;
 use lines::Line;
-use sheet::Replay;
 ghost use Prim.Native.Nat.{_≤_};
 ghost use lib.ListN.{length};
 ghost use Rattle.sheet.specs.Replay.{longestAnswer};

@@ -4,6 +4,7 @@ use state::Refusal;
 use state::Reply;
 use tables::Counted;
 ghost use mathlib.Core.Path.{_≡_};
+ghost use denote.Ref.{ptr};
 ghost use Rattle.state.specs.Model.{gateway};
 ghost use Rattle.tables.specs.Calls.{checkCall, countCall, listCall, listAfter, listFront};
 
@@ -51,9 +52,9 @@ pub fn list(cells: &[u32], out: &mut [u32]) -> Counted
     }
 }
 
-// The same, handing back the filled front part of `out`.
+// The same, handing back the filled front part of `out`: it begins where `out` does.
 pub fn list_front<'a>(cells: &[u32], out: &'a mut [u32]) -> &'a mut [u32]
-    ensures { λ r. ⌜ now r ≡ listFront gateway (now (cells .entry)) (now (out .entry)) ⌝ }
+    ensures { λ r. ⌜ (now r ≡ listFront gateway (now (cells .entry)) (now (out .entry))) × (ptr r ≡ ptr (out .entry)) ⌝ }
 {
     let listed = list(cells, out);
     match listed {

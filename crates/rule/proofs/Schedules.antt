@@ -25,7 +25,7 @@ same-table (x ∷ xs) [] p = absurd p
 same-table (x ∷ xs) (y ∷ ys) p =
     ap₂ (λ (a : ℕ) (l : List ℕ). a ∷ l) (eqb→eq x y (and-left (eqb x y) (sameTable xs ys) p)) (same-table xs ys (and-right (eqb x y) (sameTable xs ys) p))
 
-same-bit : (a b : Bool) → T (sameBit a b) → a ≡ b
+pub same-bit : (a b : Bool) → T (sameBit a b) → a ≡ b
 unfolding sameBit
 same-bit true true p = refl
 same-bit true false p = absurd p
@@ -40,7 +40,7 @@ same-answers (x ∷ xs) [] p = absurd p
 same-answers (x ∷ xs) (y ∷ ys) p =
     ap₂ (λ (a : Bool) (l : List Bool). a ∷ l) (same-bit x y (and-left (sameBit x y) (sameAnswers xs ys) p)) (same-answers xs ys (and-right (sameBit x y) (sameAnswers xs ys) p))
 
-all-idle : (ws : List Activity) → T (noneBusy ws) → (w : ℕ) → getD ws w Idle ≡ Idle
+pub all-idle : (ws : List Activity) → T (noneBusy ws) → (w : ℕ) → getD ws w Idle ≡ Idle
 unfolding noneBusy
 all-idle [] p w = refl
 all-idle (a ∷ others) p zero = rests a (eqb→eq (busy a) 0 (and-left (eqb (busy a) 0) (noneBusy others) p))
@@ -50,11 +50,14 @@ pub closes : (s : Schedule) → T (closesRight s) → Closes s
 unfolding closesRight closesAs
 closes s p =
     let r : Run = ends s in
+    let said : List Bool = map (λ (a : Said). a .found) (r .said) in
     let q = and-right (noneBusy (r .workers)) _ p in
+    let m = and-right (sameTable (r .table) (s .closed)) _ q in
     record {
       rest = all-idle (r .workers) (and-left (noneBusy (r .workers)) _ p);
       table = same-table (r .table) (s .closed) (and-left (sameTable (r .table) (s .closed)) _ q);
-      answers = same-answers (map (λ (a : Said). a .found) (r .said)) (s .answers) (and-right (sameTable (r .table) (s .closed)) _ q);
+      answers = same-answers said (s .answers) (and-left (sameAnswers said (s .answers)) (eqb (r .counted) (s .counted)) m);
+      counted = eqb→eq (r .counted) (s .counted) (and-right (sameAnswers said (s .answers)) (eqb (r .counted) (s .counted)) m);
     }
 
 -- ---- the test, computed
@@ -68,7 +71,8 @@ all-say [] p = tt
 all-say (s ∷ others) p = (closes s (and-left (closesRight s) (allClose others) p), all-say others (and-right (closesRight s) (allClose others) p))
 
 computed : T (allClose schedules)
-unfolding allClose schedules closesRight closesAs ends noneBusy sameTable sameBit sameAnswers round rounds steps run event accepts ordered stepped rule insertStep findStep deleteStep fits narrow dist prev wrap count
+unfolding allClose schedules closesRight closesAs ends noneBusy sameTable sameBit sameAnswers round rounds steps
+    run event accepts ordered stepped rule insertStep findStep deleteStep fits narrow dist prev wrap count
 computed = tt
 
 pub all-close : SchedulesPromise

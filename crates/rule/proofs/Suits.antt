@@ -1,5 +1,5 @@
 -- The cell that a step touches, and what a step makes of an activity that a worker may have: another such activity, whatever the cell holds.
-use mathlib.Core.Path.{_≡_}
+use mathlib.Core.Path.{_≡_, refl}
 use mathlib.Core.Logic.{_≢_}
 use Prim.Native.Nat.{ℕ, _<_}
 use native.Mathlib.Omega.{arith}
@@ -12,7 +12,7 @@ use Rattle.activities.specs.declared.Activity.{Activity}
 use Rattle.activities.specs.declared.Activity.the-variants.{Idle, Reading, Replacing, WalkingBack, SeekingForward, SeekingBack}
 use Rattle.rule.specs.Rule.{touched, fits, narrow, insertStep, findStep, deleteStep, rule}
 use Rattle.rule.specs.declared.Outcome.{Outcome}
-use Rattle.rule.specs.declared.Place.the-variants.{At}
+use Rattle.rule.specs.declared.Place.the-variants.{Nowhere, At}
 
 -- ---- the touched cell is one of the activity's
 pub touched-below : (n : ℕ) (a : Activity) (c : ℕ) → Below n (cellsOf a) → touched a ≡ At c → c < n
@@ -22,6 +22,15 @@ touched-below n (Replacing v d j x) c w e = let z : d ≡ c = cc in omega arith
 touched-below n (WalkingBack v d) c w e = let z : d ≡ c = cc in omega arith
 touched-below n (SeekingForward v d j) c w e = let z : j ≡ c = cc in omega arith
 touched-below n (SeekingBack v d j x p) c w e = let z : p ≡ c = cc in omega arith
+
+-- a worker that touches nothing is idle
+pub nowhere-idle : (a : Activity) → touched a ≡ Nowhere → a ≡ Idle
+nowhere-idle Idle e = refl
+nowhere-idle (Reading v i) e = cc
+nowhere-idle (Replacing v k j x) e = cc
+nowhere-idle (WalkingBack v k) e = cc
+nowhere-idle (SeekingForward v k j) e = cc
+nowhere-idle (SeekingBack v k j x p) e = cc
 
 -- ---- a step
 module _ (k n : ℕ) (home : ℕ → ℕ) where

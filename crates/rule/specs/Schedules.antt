@@ -1,4 +1,5 @@
--- Small schedules that tell wrong rules from the right one: each ends with all workers idle and a table, or a find's answer, that a wrong rule misses.
+-- Small schedules that tell wrong rules from the right one: each ends with all workers idle and a table, a find's answer, or a
+-- number of steps that a wrong rule misses.
 use mathlib.Core.Path.{_≡_}
 use mathlib.Core.Bool.{Bool, true, false, _&&_}
 use mathlib.Core.List.{List, [], _∷_, _++_, map}
@@ -20,6 +21,8 @@ pub record Schedule : Type 0 where
   -- the table in the end, and the finds' answers, the last one first
   pub closed : List ℕ
   pub answers : List Bool
+  -- the steps of workers with unfinished operations: a step more or fewer is noticed, also where the outcome is right
+  pub counted : ℕ
 
 -- one step of each worker below W, put before further events
 unfoldable pub round : ℕ → List Event → List Event
@@ -38,11 +41,12 @@ steps (suc r) w es = step w ∷ steps r w es
 unfoldable pub ends : Schedule → Run
 ends s = after (s .kind) (s .cells) (s .crew) (modulo (s .cells)) (s .table) (s .events ++ rounds (s .crew) (s .rounds))
 
--- what a schedule says: all workers are idle in the end, and table and answers are as written
+-- what a schedule says: all workers are idle in the end, and table, answers and the number of steps are as written
 pub record Closes (s : Schedule) : Type 0 where
   pub rest : AllIdle (ends s)
   pub table : ends s .table ≡ s .closed
   pub answers : map (λ (a : Said). a .found) (ends s .said) ≡ s .answers
+  pub counted : ends s .counted ≡ s .counted
 
 -- ---- the same as a test that computes
 unfoldable pub sameTable : List ℕ → List ℕ → Bool
@@ -66,11 +70,11 @@ unfoldable pub noneBusy : List Activity → Bool
 noneBusy [] = true
 noneBusy (a ∷ others) = eqb (busy a) 0 && noneBusy others
 
-unfoldable pub closesAs : List ℕ → List Bool → Run → Bool
-closesAs t bs r = noneBusy (r .workers) && (sameTable (r .table) t && sameAnswers (map (λ (a : Said). a .found) (r .said)) bs)
+unfoldable pub closesAs : List ℕ → List Bool → ℕ → Run → Bool
+closesAs t bs i r = noneBusy (r .workers) && (sameTable (r .table) t && (sameAnswers (map (λ (a : Said). a .found) (r .said)) bs && eqb (r .counted) i))
 
 unfoldable pub closesRight : Schedule → Bool
-closesRight s = closesAs (s .closed) (s .answers) (ends s)
+closesRight s = closesAs (s .closed) (s .answers) (s .counted) (ends s)
 
 -- ---- the schedules: document 01's examples, and the smallest that were found to tell wrong rules apart
 unfoldable pub schedules : List Schedule
@@ -85,6 +89,7 @@ schedules =
       rounds = 10;
       closed = 0 ∷ 5 ∷ 1 ∷ 0 ∷ [];
       answers = [];
+      counted = 11;
     }
     -- document 01: two workers put in 8
     ∷ record {
@@ -96,6 +101,7 @@ schedules =
       rounds = 6;
       closed = 0 ∷ 0 ∷ 0 ∷ 8 ∷ 0 ∷ [];
       answers = [];
+      counted = 5;
     }
     -- document 01: its sheet
     ∷ record {
@@ -107,6 +113,7 @@ schedules =
       rounds = 13;
       closed = 4 ∷ 3 ∷ 0 ∷ 13 ∷ 8 ∷ [];
       answers = [];
+      counted = 20;
     }
     -- document 01: 13 ordered out by two workers
     ∷ record {
@@ -118,6 +125,7 @@ schedules =
       rounds = 18;
       closed = 3 ∷ 0 ∷ 0 ∷ 8 ∷ 4 ∷ [];
       answers = [];
+      counted = 18;
     }
     -- two keys of one run taken out, across the wrap
     ∷ record {
@@ -129,6 +137,7 @@ schedules =
       rounds = 24;
       closed = 0 ∷ 0 ∷ 0 ∷ 3 ∷ 4 ∷ [];
       answers = [];
+      counted = 27;
     }
     -- a nearer replacement moves in while the other worker seeks
     ∷ record {
@@ -140,6 +149,7 @@ schedules =
       rounds = 15;
       closed = 0 ∷ 1 ∷ 0 ∷ 0 ∷ 4 ∷ [];
       answers = [];
+      counted = 25;
     }
     -- a key taken out whose followers stand in their homes
     ∷ record {
@@ -151,6 +161,7 @@ schedules =
       rounds = 11;
       closed = 0 ∷ 5 ∷ 1 ∷ 0 ∷ [];
       answers = [];
+      counted = 8;
     }
     -- the replacement seen on the way forward is gone on the way back
     ∷ record {
@@ -162,6 +173,7 @@ schedules =
       rounds = 10;
       closed = 0 ∷ 1 ∷ 0 ∷ 0 ∷ [];
       answers = [];
+      counted = 16;
     }
     -- a worker's own key is its replacement
     ∷ record {
@@ -173,6 +185,7 @@ schedules =
       rounds = 10;
       closed = 0 ∷ 0 ∷ 0 ∷ [];
       answers = [];
+      counted = 18;
     }
     -- an index behind a copy of its key
     ∷ record {
@@ -184,6 +197,7 @@ schedules =
       rounds = 10;
       closed = 0 ∷ 0 ∷ 0 ∷ [];
       answers = [];
+      counted = 15;
     }
     -- a path that holds an empty cell for a while
     ∷ record {
@@ -195,6 +209,7 @@ schedules =
       rounds = 13;
       closed = 0 ∷ 0 ∷ 0 ∷ 0 ∷ [];
       answers = [];
+      counted = 20;
     }
     -- a content that rises
     ∷ record {
@@ -206,6 +221,7 @@ schedules =
       rounds = 10;
       closed = 0 ∷ 0 ∷ 0 ∷ 0 ∷ 0 ∷ [];
       answers = [];
+      counted = 37;
     }
     -- one key is there, the other is not
     ∷ record {
@@ -217,6 +233,19 @@ schedules =
       rounds = 2;
       closed = 0 ∷ 4 ∷ 1 ∷ [];
       answers = true ∷ false ∷ [];
+      counted = 3;
+    }
+    -- the greater of two keys comes while the smaller one is about to be put in behind a third
+    ∷ record {
+      kind = 1;
+      cells = 4;
+      crew = 2;
+      table = 8 ∷ 0 ∷ 0 ∷ 0 ∷ [];
+      events = order 0 4 ∷ order 1 12 ∷ steps 2 0 (steps 4 1 []);
+      rounds = 5;
+      closed = 12 ∷ 8 ∷ 4 ∷ 0 ∷ [];
+      answers = [];
+      counted = 10;
     }
     ∷ []
 

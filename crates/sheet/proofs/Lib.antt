@@ -1,4 +1,7 @@
-pub mod Answering
-pub mod One
-pub mod Store
+pub mod Lines
+pub mod Ran
+pub mod Texts
+pub mod Theorem
+pub mod Unreadable
 pub mod Valid
+pub mod Written

@@ -2,10 +2,10 @@
 use mathlib.Core.Path.{_≡_, refl, sym, _∙_, ap}
 use mathlib.Core.Bool.{Bool, true, false}
 use mathlib.Core.List.{List, []}
-use Prim.Native.Nat.{ℕ, _≤_}
+use Prim.Native.Nat.{ℕ}
 use native.Mathlib.Omega.{arith}
 use lib.Dec.{ltb}
-use lib.ListN.{length, getD, length-replicate}
+use lib.ListN.{getD, length-replicate}
 use borrow.Author.Tests.{ltb-false}
 use Rattle.history.specs.History as history
 use Rattle.protocol.proofs.Chain.{by-reply}
@@ -28,14 +28,12 @@ use Rattle.dealing.proofs.Reached.{order-from, turn-from, close-from}
 use Rattle.dealing.proofs.Settling.{turn-shut, turn-length, run-reached, run-length}
 use Rattle.fitting.specs.declared.Reading.{Reading}
 use Rattle.fitting.specs.declared.Reading.the-variants.{Todo}
-use Rattle.sheet.specs.declared.Replay.{Replay}
 use Rattle.fitting.specs.declared.Handling.the-variants.{Performed, Refused, Bad}
 use Rattle.fitting.specs.declared.Task.{Task}
 use Rattle.fitting.specs.declared.Task.the-variants.{Perform, Refuse}
 use Rattle.fitting.specs.Fitting.{rowOf, handlingIn, readingIn}
 use Rattle.sheet.specs.Replay.{State, Step, calls, cellsTask, turnTask, runTask, commanded, answered, answerOf, blank, mostSheetCells}
-use Rattle.sheet.specs.Store.{replayOf, Runs, Ready}
-use Rattle.sheet.specs.Valid.{Valid}
+use Rattle.sheet.specs.Valid.{Valid, RunFinds}
 use Rattle.fitting.proofs.Fitting.{performs}
 
 -- a phase is not both open and shut
@@ -44,10 +42,6 @@ never b e f = absurd (let z : _≡_ {A = ℕ} 0 1 = cc in omega arith)
 
 pub blank-valid : Valid blank
 blank-valid = record { few = omega arith; reached = λ f. never true refl f }
-
--- what `start` gives is ready for a first line
-pub blank-ready : (r : Replay) (cells : List ℕ) → r ≡ replayOf blank → mostSheetCells ≤ length cells → Ready r cells
-blank-ready r cells e l = rw e (record { roomy = record { fits = omega arith; most = l }; valid = blank-valid })
 
 -- ---- openings
 opened-reached : (k m : ℕ) (t : List ℕ) (a : Reply) → openReply gateway k m t ≡ a
@@ -143,7 +137,7 @@ module _ (s : State) (v : Valid s) where
     valid-kept = reading-kept (readingIn (s .phase .kind) (s .phase .shut) l) refl
 
     -- a run is asked for in an open phase only
-    pub allowed : (t : Task) → readingIn (s .phase .kind) (s .phase .shut) l ≡ Todo t → Runs s t
+    pub allowed : (t : Task) → readingIn (s .phase .kind) (s .phase .shut) l ≡ Todo t → RunFinds s t
     allowed t e q =
         let up = run-open (performs (s .phase .kind) (s .phase .shut) l Command.Run (e ∙ ap (λ (x : Task). Todo x) q)) in
         (v .reached up, up)

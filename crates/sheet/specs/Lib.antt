@@ -1,4 +1,3 @@
-pub mod One
+pub mod Promise
 pub mod Replay
-pub mod Store
 pub mod Valid

@@ -4,6 +4,9 @@ use mathlib.Core.Bool.{false}
 use Prim.Native.Nat.{_≤_}
 use lib.ListN.{length}
 use Rattle.state.specs.Model.{gateway}
+use Rattle.lines.specs.declared.Command.{Command}
+use Rattle.fitting.specs.declared.Task.{Task}
+use Rattle.fitting.specs.declared.Task.the-variants.{Perform}
 use Rattle.dealing.specs.Reached.{Reached}
 use Rattle.sheet.specs.Replay.{State, mostSheetCells}
 
@@ -11,3 +14,7 @@ use Rattle.sheet.specs.Replay.{State, mostSheetCells}
 pub record Valid (s : State) : Type 0 where
   pub few : length (s .table) ≤ mostSheetCells
   pub reached : s .phase .shut ≡ false → Reached gateway (s .phase) (s .table)
+
+-- what the line `run` must find: an open phase that calls have led to
+abbrev pub RunFinds : State → Task → Type 0
+RunFinds s t = t ≡ Perform Command.Run → Reached gateway (s .phase) (s .table) × (s .phase .shut ≡ false)

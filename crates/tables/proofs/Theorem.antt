@@ -5,11 +5,14 @@ use mathlib.Core.List.{List, [], _∷_, _++_}
 use Prim.Native.Nat.{ℕ, _≤_, _<_}
 use native.Mathlib.Omega.{arith}
 use lib.Dec.{ltb}
-use lib.ListN.{length, drop}
+use lib.ListN.{length, getD}
 use borrow.Author.Tests.{ltb-true, ltb-false, le-ltb}
+use Rattle.ring.proofs.Split.{by-eq}
 use Rattle.ring.proofs.Tests.{within-says}
 use Rattle.layout.specs.Layout.{size}
 use Rattle.words.specs.Words.{keysOf, filled, countOf}
+use Rattle.words.specs.Promise.{InCellOrder, keysBefore}
+use Rattle.words.proofs.Order.{filled-in-order, filled-behind, length-filled}
 use Rattle.words.proofs.Theorem.{theorem as listing}
 use Rattle.state.specs.Model.{Model, Proper}
 use Rattle.state.specs.Refusals.{replyNumber, firstOf}
@@ -21,7 +24,7 @@ use Rattle.protocol.proofs.Calls.{sound-says, sizeSteps, soundSteps}
 use Rattle.protocol.proofs.Chain.{Step, casesOf, decides}
 use Rattle.tables.specs.declared.Counted.{Counted}
 use Rattle.tables.specs.declared.Counted.the-variants as counted
-use Rattle.tables.specs.Calls.{countNumber, countValue, countedBy, ifCounted, checkCall, countCall, listBars, listCall}
+use Rattle.tables.specs.Calls.{countNumber, countValue, countedBy, ifCounted, checkCall, countCall, listBars, listCall, listAfter, listFront}
 use Rattle.tables.specs.Promise.{Usable, listCases, AtRest, AtRestPromise}
 
 -- ---- by the form of an answer
@@ -95,6 +98,33 @@ module _ (M : Model) (proper : Proper M) (t : List ℕ) where
       is-size : countOf t ≡ size t
       is-size = let (_, (_, (_, none))) = by-tests in let (b, _) = none .0 z in counts (b .0 .1, b .1)
 
+      room : countOf t ≤ length out
+      room = let (_, (_, (_, none))) = by-tests in none .0 z .1
+
+      after-filled : listAfter M t out ≡ filled t out
+      after-filled = ap (λ (a : Counted). ifCounted a (filled t out) out) full
+
+      listed : InCellOrder t (listAfter M t out)
+      listed i key = ap (λ (l : List ℕ). getD l (keysBefore t i) 0) after-filled ∙ filled-in-order t out i key
+
+      behind : (j : ℕ) → size t ≤ j → getD (listAfter M t out) j 0 ≡ getD out j 0
+      behind j h = ap (λ (l : List ℕ). getD l j 0) after-filled ∙ filled-behind t out j (omega (arith, is-size, listing t .count))
+
+      front-keys : listFront M t out ≡ keysOf t
+      front-keys = ap (λ (a : Counted). ifCounted a (keysOf t) []) full
+
+      front : InCellOrder t (listFront M t out)
+      front i key = ap (λ (l : List ℕ). getD l (keysBefore t i) 0) front-keys ∙ listing t .listed i key
+
+      front-long : length (listFront M t out) ≡ size t
+      front-long = ap length front-keys ∙ listing t .long ∙ sym (listing t .count) ∙ is-size
+
+    unlisted : number ≢ 0 → listAfter M t out ≡ out
+    unlisted = kept (listCall M t out) (filled t out) out
+
+    long : length (listAfter M t out) ≡ length out
+    long = by-eq number 0 (λ z. ap length (after-filled z) ∙ length-filled t out (omega (arith, room z, listing t .count))) (λ r. ap length (unlisted r))
+
     at-rest : AtRest M t out
     at-rest =
         record {
@@ -103,11 +133,12 @@ module _ (M : Model) (proper : Proper M) (t : List ℕ) where
           count-true = count-true;
           list = list;
           list-true = λ z. ap countValue (full z) ∙ is-size z;
-          listed = λ z.
-              ap (λ (a : Counted). ifCounted a (filled t out) out) (full z)
-              ∙ ap (λ (c : ℕ). keysOf t ++ drop c out) (sym (listing t .count) ∙ is-size z);
-          unlisted = kept (listCall M t out) (filled t out) out;
-          front = λ z. ap (λ (a : Counted). ifCounted a (keysOf t) []) (full z);
+          listed = listed;
+          behind = behind;
+          long = long;
+          unlisted = unlisted;
+          front = front;
+          front-long = front-long;
           no-front = kept (listCall M t out) (keysOf t) [];
         }
 

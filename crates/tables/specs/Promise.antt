@@ -3,9 +3,9 @@ use mathlib.Core.Path.{_≡_}
 use mathlib.Core.Logic.{_≢_}
 use mathlib.Core.List.{List, [], _∷_, _++_}
 use Prim.Native.Nat.{ℕ, _≤_, _<_}
-use lib.ListN.{length, drop}
+use lib.ListN.{length, getD}
 use Rattle.layout.specs.Layout.{size}
-use Rattle.words.specs.Words.{keysOf}
+use Rattle.words.specs.Promise.{InCellOrder}
 use Rattle.state.specs.Model.{Model, Proper}
 use Rattle.state.specs.Refusals.{replyNumber}
 use Rattle.protocol.specs.Cases.{Case, case, Decides}
@@ -33,12 +33,15 @@ module _ (M : Model) (t : List ℕ) where
       pub count-refused : countNumber (countCall M t) ≡ replyNumber (checkCall M t)
       pub count-true : Usable → countValue (countCall M t) ≡ size t
       pub list : Decides (countNumber (listCall M t out)) listCases
-      -- it lists the keys in cell order, and what stands behind them is kept; a refusal changes nothing
+      -- it says how many keys the table has, lists them in cell order, and what stands behind them is kept; a refusal changes nothing
       pub list-true : countNumber (listCall M t out) ≡ 0 → countValue (listCall M t out) ≡ size t
-      pub listed : countNumber (listCall M t out) ≡ 0 → listAfter M t out ≡ keysOf t ++ drop (size t) out
+      pub listed : countNumber (listCall M t out) ≡ 0 → InCellOrder t (listAfter M t out)
+      pub behind : countNumber (listCall M t out) ≡ 0 → (j : ℕ) → size t ≤ j → getD (listAfter M t out) j 0 ≡ getD out j 0
+      pub long : length (listAfter M t out) ≡ length out
       pub unlisted : countNumber (listCall M t out) ≢ 0 → listAfter M t out ≡ out
-      -- the front part is the keys in cell order, and empty where listing is refused
-      pub front : countNumber (listCall M t out) ≡ 0 → listFront M t out ≡ keysOf t
+      -- the front part is the keys in cell order and nothing more, and empty where listing is refused
+      pub front : countNumber (listCall M t out) ≡ 0 → InCellOrder t (listFront M t out)
+      pub front-long : countNumber (listCall M t out) ≡ 0 → length (listFront M t out) ≡ size t
       pub no-front : countNumber (listCall M t out) ≢ 0 → listFront M t out ≡ []
 
 abbrev pub AtRestPromise : Type 0

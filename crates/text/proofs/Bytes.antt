@@ -1,14 +1,16 @@
 -- Texts as lists of bytes: comparing two, and the place of a byte.
 use mathlib.Core.Path.{_≡_, refl, sym}
+use mathlib.Core.Logic.{_≢_}
 use mathlib.Core.Bool.{true, false}
 use mathlib.Core.List.{List, [], _∷_}
 use Prim.Native.Nat.{ℕ, zero, suc, min, _≤_, _<_}
 use native.Mathlib.Omega.{arith}
-use borrow.Author.Tests.{eqb-true, eq-eqb}
+use borrow.Author.Tests.{eqb-true, eqb-false, eq-eqb}
 use lib.Dec.{eqb}
-use lib.ListN.{length, take}
+use lib.ListN.{length, getD, take}
 use lib.Seq.{length-take-le}
 use Rattle.text.specs.Bytes.{same, byteAt}
+use Rattle.text.specs.Promise.{FirstAt}
 use Rattle.text.proofs.Test.{by-test, by-lt, true-false, both-true}
 
 -- ---- the same bytes
@@ -74,6 +76,23 @@ module _ (x : ℕ) where
   -- there is one, or none
   pub by-byte {ℓ} : {C : Type ℓ} (s : List ℕ) → (byteAt x s < length s → C) → (byteAt x s ≡ length s → C) → C
   by-byte s f g = by-lt (byteAt x s) (length s) f (λ h. g (omega (arith, byte-le s)))
+
+  -- before it there is none, and it is one
+  byte-before : (s : List ℕ) (i : ℕ) → i < byteAt x s → getD s i 0 ≢ x
+  byte-before [] i l = absurd (omega (arith, byte-nil))
+  byte-before (b ∷ s) zero l = by-test (eqb b x) (λ e. absurd (omega (arith, byte-here b s e))) (λ e. eqb-false b x e)
+  byte-before (b ∷ s) (suc i) l = by-test (eqb b x)
+      (λ e. absurd (omega (arith, byte-here b s e)))
+      (λ e. byte-before s i (omega (arith, byte-later b s e)))
+
+  pub byte-found : (s : List ℕ) → byteAt x s < length s → getD s (byteAt x s) 0 ≡ x
+  byte-found [] h = absurd (omega arith)
+  byte-found (b ∷ s) h = by-test (eqb b x)
+      (λ e. rw (byte-here b s e) (eqb-true b x e))
+      (λ e. rw (byte-later b s e) (byte-found s (omega (arith, byte-later b s e))))
+
+  pub first-at : (s : List ℕ) → FirstAt x s (byteAt x s)
+  first-at s = record { within = byte-le s; none-before = byte-before s; found = byte-found s }
 
   -- in the front of a text
   pub byte-take : (n : ℕ) (s : List ℕ) → byteAt x (take n s) ≡ min n (byteAt x s)

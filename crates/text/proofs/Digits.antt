@@ -5,13 +5,11 @@ use mathlib.Core.List.{List, [], _∷_, _++_, append-nil}
 use Prim.Native.Nat.{ℕ, zero, suc, _+_, _-_, _*_, _/_, _%_, _^_, _≤_, _<_}
 use native.Mathlib.Omega.{arith}
 use native.Mathlib.Nat.{pow-succ'}
-use native.Mathlib.Numerals.{unary-clauses}
 use borrow.Author.Tests.{lt-ltb, le-ltb, eqb-false, not-true}
 use lib.Arith.{lt-of-le-ne}
 use lib.Dec.{leb, eqb}
 use lib.ListN.{length, getD, length-append, List·getD-append}
 use lib.Seq.{append-snoc}
-use Rattle.io.specs.Digits.{digits as last-digits, Fewest}
 use Rattle.text.specs.Bytes.{byteAt}
 use Rattle.text.specs.Numbers.{greatestNumber, longestNumber, digits, leads, valueFrom, valueOf, isNumber}
 use Rattle.text.specs.Digits.{digitsWithin, mostDigits, digitsOf}
@@ -153,17 +151,3 @@ short-number s e =
     let p = number-parts s e in
     let k : length (digitsOf (valueOf s)) ≤ longestNumber = few-digits 9 (valueOf s) (omega (arith, p .2)) in
     rw (number-back s e) at k
-
--- ---- the fewest digits that hold a number
-pub fewest-digits : (k n : ℕ) → Fewest 10 1 n k → last-digits 10 k n ≡ digitsOf n
-fewest-digits zero n f = absurd (omega (arith, f .0))
-fewest-digits (suc zero) n f =
-    let h : n < 10 = f .1 in
-    let m : n % 10 ≡ n = omega arith in
-    rw (m, lt-ltb n 10 h) (sym (one-digit n h))
-fewest-digits (suc (suc k)) n f =
-    let least : 10 ^ k * 10 ≤ n = simp unary-clauses at (f .2 (omega arith)) in
-    let below : n / 10 < 10 ^ suc k = omega (arith, f .1, pow-succ' 10 (suc k)) in
-    let tenth : last-digits 10 (suc k) (n / 10) ≡ digitsOf (n / 10) =
-    fewest-digits (suc k) (n / 10) (omega arith, below, λ h. simp unary-clauses (omega arith)) in
-    rw (lt-ltb (n % 10) 10 (omega arith), tenth) (sym (more-digits n (omega (arith, pow-succ' 10 k))))

@@ -10,6 +10,7 @@ use lib.ListN.{length, take, drop}
 use lib.Seq.{take-length, take-take}
 use Rattle.text.specs.Bytes.{byteAt}
 use Rattle.text.specs.Fields.{inFront, fieldsOf, firstField, joined}
+use Rattle.text.specs.Promise.{Tabless}
 use Rattle.text.proofs.Test.{by-test}
 use Rattle.text.proofs.Bytes.{byte-nil, byte-here, byte-later, by-byte, byte-take}
 
@@ -80,12 +81,7 @@ tab-behind (b ∷ f) l h = by-test (eqb b 9)
     (λ e. absurd (omega (arith, byte-here 9 b f e)))
     (λ e. rw (e, tab-behind f l (omega (arith, byte-later 9 b f e))))
 
--- no field has a tab
-unfoldable pub Tabless : List (List ℕ) → Type 0
-Tabless [] = Unit {0}
-Tabless (f ∷ fs) = (byteAt 9 f ≡ length f) × Tabless fs
-
--- such fields, joined, are cut back into themselves
+-- fields without tabs, joined, are cut back into themselves
 pub fields-joined : (f : List ℕ) (fs : List (List ℕ)) → Tabless (f ∷ fs) → fieldsOf (joined (f ∷ fs)) ≡ f ∷ fs
 unfolding Tabless
 fields-joined f [] h = only-field f (h .0)

@@ -6,8 +6,10 @@ use native.Mathlib.Omega.{arith}
 use Rattle.text.specs.declared.Number.{Number}
 use Rattle.text.specs.Numbers.{valueOf, numberOf}
 use Rattle.text.specs.Digits.{digitsOf, digitsWithin}
+use Rattle.text.specs.Bytes.{bytesOf}
 use Rattle.text.specs.Promise.{Digits, ReadAs, TextPromise}
-use Rattle.text.proofs.Fields.{joined-fields}
+use Rattle.text.proofs.Bytes.{first-at}
+use Rattle.text.proofs.Fields.{joined-fields, fields-joined}
 use Rattle.text.proofs.Values.{number-parts, read-number}
 use Rattle.text.proofs.Digits.{one-digit, some-digit, digits-of-digits, first-not-zero, value-of-digits, most-digits, number-of-digits, number-back, short-number}
 
@@ -32,11 +34,15 @@ read-as s n e =
     }
 
 pub text-promise : TextPromise
-unfolding digitsOf digitsWithin
+unfolding digitsOf digitsWithin bytesOf
 text-promise = record {
+  ascii = refl;
+  first = first-at;
   fields = joined-fields;
+  parted = fields-joined;
   zero-digit = one-digit 0 (omega arith);
   digits = of-digits;
   number = read-as;
+  greatest = refl;
   longest = refl;
 }

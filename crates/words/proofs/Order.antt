@@ -1,15 +1,16 @@
 -- Groups listed in any order, each at least once, give the same list: a place of the list is written by one group only, always with the same key.
 use mathlib.Core.Path.{_≡_, refl, sym, _∙_, ap}
-use mathlib.Core.Logic.{inl, inr}
+use mathlib.Core.Logic.{_≢_, inl, inr}
 use mathlib.Core.List.{List, [], _∷_, _++_, append-assoc}
 use Prim.Native.Nat.{ℕ, zero, suc, _+_, _-_, _*_, _≤_, _<_}
 use native.Mathlib.Omega.{arith}
-use lib.ListN.{length, getD, take, drop, set, take-append-drop, length-set, length-append, length-drop, List·getD-append}
+use lib.ListN.{length, getD, take, drop, set, take-append-drop, length-set, length-append, length-drop, List·getD-append, List·getD-eq-default}
 use lib.Seq.{sets, length-sets, lt-length-sets, getD-set-same, getD-set-other, getD-append-add, getD-drop, ext-getD}
 use Rattle.ring.proofs.Split.{by-lt}
 use Rattle.layout.specs.Layout.{In}
 use Rattle.words.specs.Words.{occupied, keysOf, filled, groups, group, placeOf, countOf, groupListed, groupsListed}
-use Rattle.words.proofs.Words.{keys-append, length-keys}
+use Rattle.words.specs.Promise.{keysBefore, InCellOrder}
+use Rattle.words.proofs.Words.{key-in-place, keys-append, length-keys}
 use Rattle.words.proofs.Places.{cells-next, place-zero, place-step, place-is, place-le-occupied, count-occupied}
 
 -- ---- a run of stores, place for place
@@ -39,13 +40,13 @@ module _ (t : List ℕ) where
       (List·getD-append (keysOf (group t g)) (keysOf (drop (64 * suc g) t)) 0 k (simp length-keys h))
 
   -- ---- what listing a group leaves at place p
-  group-writes : (g p : ℕ) (o : List ℕ) → p < length o → placeOf t g ≤ p → p < placeOf t (suc g) → getD (groupListed t g o) p 0 ≡ getD (keysOf t) p 0
+  pub group-writes : (g p : ℕ) (o : List ℕ) → p < length o → placeOf t g ≤ p → p < placeOf t (suc g) → getD (groupListed t g o) p 0 ≡ getD (keysOf t) p 0
   group-writes g p o b l r =
       let e : p ≡ placeOf t g + (p - placeOf t g) = omega arith in
       let k : p - placeOf t g < occupied (group t g) = omega (arith, place-step t g) in
       rw e (sets-at (keysOf (group t g)) o (placeOf t g) (p - placeOf t g) (simp length-keys k) (omega arith) ∙ sym (key-at g (p - placeOf t g) k))
 
-  group-skips : (g p : ℕ) (o : List ℕ) → (placeOf t g ≤ p → p < placeOf t (suc g) → ⊥) → getD (groupListed t g o) p 0 ≡ getD o p 0
+  pub group-skips : (g p : ℕ) (o : List ℕ) → (placeOf t g ≤ p → p < placeOf t (suc g) → ⊥) → getD (groupListed t g o) p 0 ≡ getD o p 0
   group-skips g p o h =
       sets-other (keysOf (group t g)) o (placeOf t g) p (λ a b. h a (omega (arith, place-step t g, length-keys (group t g))))
 
@@ -82,18 +83,25 @@ module _ (t : List ℕ) where
   writer (suc m) p h = by-lt p (placeOf t m) (λ l. let (g, a, b, c) = writer m p l in (g, omega arith, b, c)) (λ l. (m, omega arith, l, h))
 
   -- ---- the filled list
+  keys-before-less : (i : ℕ) → getD t i 0 ≢ 0 → keysBefore t i < occupied t
+  keys-before-less i key = by-lt (keysBefore t i) (occupied t) (λ l. l)
+      (λ h. absurd (key (sym (key-in-place t i key) ∙ List·getD-eq-default (keysOf t) 0 (omega (arith, length-keys t)))))
+
   module _ (out : List ℕ) where
     filled-front : (p : ℕ) → p < occupied t → getD (filled t out) p 0 ≡ getD (keysOf t) p 0
     filled-front p h = List·getD-append (keysOf t) _ 0 p (simp length-keys h)
 
-    filled-behind : (p : ℕ) → occupied t ≤ p → getD (filled t out) p 0 ≡ getD out p 0
+    pub filled-in-order : InCellOrder t (filled t out)
+    filled-in-order i key = filled-front (keysBefore t i) (keys-before-less i key) ∙ key-in-place t i key
+
+    pub filled-behind : (p : ℕ) → occupied t ≤ p → getD (filled t out) p 0 ≡ getD out p 0
     filled-behind p h =
         let e : p ≡ length (keysOf t) + (p - occupied t) = omega (arith, length-keys t) in
         let f : occupied t + (p - occupied t) ≡ p = omega arith in
         ap (λ (q : ℕ). getD (filled t out) q 0) e ∙ getD-append-add (keysOf t) (drop (occupied t) out) (p - occupied t) 0 ∙ getD-drop (occupied t) out (p - occupied t) 0
         ∙ ap (λ (q : ℕ). getD out q 0) f
 
-    length-filled : occupied t ≤ length out → length (filled t out) ≡ length out
+    pub length-filled : occupied t ≤ length out → length (filled t out) ≡ length out
     length-filled h = simp (length-append, length-keys, length-drop) (omega arith)
 
   pub any-order : (gs out : List ℕ) → countOf t ≤ length out → ((g : ℕ) → g < groups t → In g gs) → groupsListed t gs out ≡ filled t out

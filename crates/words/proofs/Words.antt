@@ -1,16 +1,20 @@
 -- Laws of occupancy words, and of the keys of a list of cells.
 use mathlib.Core.Path.{_≡_, refl, _∙_, ap}
-use mathlib.Core.Bool.{Bool, true, false, cond}
+use mathlib.Core.Bool.{Bool, true, false, not, cond}
 use mathlib.Core.List.{List, [], _∷_, _++_}
 use Prim.Native.Nat.{ℕ, zero, suc, _+_, _/_, _%_, _^_, _≤_, _<_}
 use native.Mathlib.Omega.{arith}
-use native.Mathlib.Nat.{pow-suc}
+use native.Mathlib.Nat.{zero-add, pow-suc}
 use native.Mathlib.Numerals.{one-add}
 use lib.Count.{ones, ones-step}
 use lib.Dec.{eqb}
 use lib.ListN.{length, getD}
 use lib.Pow.{shr-le, shr-shr}
+use borrow.Author.Tests.{ne-eqb}
+use Rattle.ring.specs.Counting.{bit, count}
+use Rattle.layout.specs.Sound.{vacant}
 use Rattle.words.specs.Words.{taken, occupied, keysOf, wordOf}
+use Rattle.words.specs.Promise.{holdsKey, keysBefore, InCellOrder}
 
 pub taken-le : (x : ℕ) → taken x ≤ 1
 taken-le x = go (eqb x 0)
@@ -42,7 +46,27 @@ word-bit [] b = omega (arith, shr-le 0 b)
 word-bit (x ∷ xs) zero = omega (arith, taken-le x)
 word-bit (x ∷ xs) (suc b) = rw (← one-add b, ← shr-shr (wordOf (x ∷ xs)) 1 b, word-high x xs) (word-bit xs b)
 
--- ---- keys
+-- ---- keys counted, and each in its place
+pub occupied-counts : (xs : List ℕ) → occupied xs ≡ count holdsKey xs
+unfolding count
+occupied-counts [] = refl
+occupied-counts (x ∷ xs) = go (occupied-counts xs) (eqb x 0)
+  where
+    go : occupied xs ≡ count holdsKey xs → (b : Bool) → cond b 0 1 + occupied xs ≡ bit (not b) + count holdsKey xs
+    go e true = omega arith
+    go e false = omega arith
+
+pub key-in-place : (t : List ℕ) → InCellOrder t (keysOf t)
+unfolding count
+key-in-place [] i key = absurd (key refl)
+key-in-place (x ∷ t) zero key = rw (ne-eqb x 0 key)
+key-in-place (x ∷ t) (suc i) key = go (key-in-place t i key) (eqb x 0)
+  where
+    go : getD (keysOf t) (keysBefore t i) 0 ≡ getD t i 0 → (b : Bool) → getD (cond b (keysOf t) (x ∷ keysOf t)) (bit (not b) + keysBefore t i) 0 ≡ getD t i 0
+    go e true = rw zero-add e
+    go e false = rw one-add e
+
+-- ---- keys of lists joined, and how many
 pub occupied-append : (xs ys : List ℕ) → occupied (xs ++ ys) ≡ occupied xs + occupied ys
 occupied-append [] ys = omega arith
 occupied-append (x ∷ xs) ys = omega (arith, occupied-append xs ys)
@@ -50,6 +74,16 @@ occupied-append (x ∷ xs) ys = omega (arith, occupied-append xs ys)
 pub occupied-le : (xs : List ℕ) → occupied xs ≤ length xs
 occupied-le [] = omega arith
 occupied-le (x ∷ xs) = omega (arith, taken-le x, occupied-le xs)
+
+-- each cell is empty or holds a key
+one-of-two : (b : Bool) → bit b + cond b 0 1 ≡ 1
+one-of-two true = refl
+one-of-two false = refl
+
+pub vacant-occupied : (t : List ℕ) → vacant t + occupied t ≡ length t
+unfolding count
+vacant-occupied [] = refl
+vacant-occupied (x ∷ xs) = omega (arith, one-of-two (eqb x 0), vacant-occupied xs)
 
 pub keys-append : (xs ys : List ℕ) → keysOf (xs ++ ys) ≡ keysOf xs ++ keysOf ys
 keys-append [] ys = refl

@@ -1,23 +1,51 @@
 -- What is promised of the listing, for every table. Proved in proofs/Theorem.
 use mathlib.Core.Path.{_≡_}
+use mathlib.Core.Logic.{_≢_, _↔_}
+use mathlib.Core.Bool.{Bool, not}
 use mathlib.Core.List.{List}
-use Prim.Native.Nat.{ℕ, _+_, _*_, _^_, _/_, _%_, _≤_, _<_}
-use lib.ListN.{length, getD}
+use Prim.Native.Nat.{ℕ, suc, _+_, _*_, _^_, _/_, _%_, _≤_, _<_}
+use lib.Dec.{eqb}
+use lib.ListN.{length, getD, take}
+use Rattle.ring.specs.Counting.{count}
 use Rattle.layout.specs.Layout.{In, size}
-use Rattle.layout.specs.Sound.{Sound}
-use Rattle.words.specs.Words.{taken, occupied, keysOf, filled, groups, group, wordOf, countOf, groupsListed}
+use Rattle.layout.specs.Sound.{Sound, vacant}
+use Rattle.words.specs.Words.{occupied, keysOf, filled, groups, group, wordOf, placeOf, countOf, groupListed, groupsListed}
+
+-- a cell that holds a key
+abbrev pub holdsKey : ℕ → Bool
+holdsKey x = not (eqb x 0)
+
+-- how many of the cells before cell i hold a key
+abbrev pub keysBefore : List ℕ → ℕ → ℕ
+keysBefore t i = count holdsKey (take i t)
+
+-- the front of a list l has the keys of t in cell order from cell 0: each stands after as many as there are keys in the cells before its own
+abbrev pub InCellOrder : List ℕ → List ℕ → Type 0
+InCellOrder t l = (i : ℕ) → getD t i 0 ≢ 0 → getD l (keysBefore t i) 0 ≡ getD t i 0
 
 pub record Listing (t : List ℕ) : Type 0 where
   -- cell b of group g is cell 64 g + b of the table
   pub cells : (g b : ℕ) → b < 64 → getD (group t g) b 0 ≡ getD t (64 * g + b) 0
-  -- bit b of a group's word is 1 exactly if cell b of the group holds a key; past the table it is 0 (getD gives 0 there)
-  pub bits : (g b : ℕ) → (wordOf (group t g) / 2 ^ b) % 2 ≡ taken (getD (group t g) b 0)
+  -- bit b of a group's word is 1 if cell b of the group holds a key, else 0; past the table it is 0 (getD gives 0 there)
+  pub ones : (g b : ℕ) → getD (group t g) b 0 ≢ 0 → (wordOf (group t g) / 2 ^ b) % 2 ≡ 1
+  pub zeros : (g b : ℕ) → getD (group t g) b 0 ≡ 0 → (wordOf (group t g) / 2 ^ b) % 2 ≡ 0
+  -- there is a group for each 64 cells, the last for what is left
+  pub as-many : (g : ℕ) → g < groups t ↔ (64 * g < length t)
   pub words-fit : (g : ℕ) → wordOf (group t g) < 2 ^ 64
+  -- as many ones as stand in the words before group g are as many as there are keys in the cells before it
+  pub place : (g : ℕ) → placeOf t g ≡ keysBefore t (64 * g)
   -- the sum of the ones is the number of cells that hold a key, and the length of the list
   pub count : countOf t ≡ occupied t
   pub long : length (keysOf t) ≡ occupied t
+  pub keys : occupied t ≡ keysBefore t (length t)
+  -- the other cells are empty
+  pub empty : vacant t + occupied t ≡ length t
   -- in a sound table it is the number of keys
   pub number : (n : ℕ) (home : ℕ → ℕ) → ((x : ℕ) → home x < n) → Sound n home t → countOf t ≡ size t
+  pub listed : InCellOrder t (keysOf t)
+  -- a group listed fills its own places, from its place up to that of the next, and no others
+  pub group-fills : (g p : ℕ) (out : List ℕ) → p < length out → placeOf t g ≤ p → p < placeOf t (suc g) → getD (groupListed t g out) p 0 ≡ getD (keysOf t) p 0
+  pub group-keeps : (g p : ℕ) (out : List ℕ) → (placeOf t g ≤ p → p < placeOf t (suc g) → ⊥) → getD (groupListed t g out) p 0 ≡ getD out p 0
   -- groups listed in any order, each at least once, give the same list
   pub any-order : (gs out : List ℕ) → countOf t ≤ length out → ((g : ℕ) → g < groups t → In g gs) → groupsListed t gs out ≡ filled t out
 

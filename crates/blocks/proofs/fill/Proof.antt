@@ -8,7 +8,7 @@ use borrow.Author.Needs.{needs}
 use Rattle.state.specs.declared.Phase.{Phase}
 use Rattle.fitting.specs.declared.Aim.{Aim}
 use Rattle.fitting.proofs.Fitting.{Aimed, aimed}
-use Rattle.sheet.proofs.One.{few-crew, some-cells, good-worker, order-line, turn-line}
+use Rattle.answering.proofs.One.{few-crew, some-cells, good-worker, order-line, turn-line}
 use Rattle.blocks.specs.declared.Carried.{Carried}
 use Rattle.blocks.specs.Kept.{keptOf}
 use Rattle.blocks.proofs.Filling.{Filling, filling-none, Same, same-none, same-on, end-within, filled-up, no-room, filled-part, next-line, ended-line}

@@ -3,9 +3,9 @@ use mathlib.Core.Bool.{false}
 use native.Mathlib.Omega.{arith}
 use borrow.Author.Needs.{needs}
 use Rattle.sheet.specs.Replay.{blank}
-use Rattle.sheet.specs.Store.{replayOf}
-use Rattle.sheet.specs.declared.Replay.{Replay}
-use Rattle.sheet.proofs.Valid.{blank-ready}
+use Rattle.answering.specs.Store.{replayOf}
+use Rattle.answering.specs.declared.Replay.{Replay}
+use Rattle.answering.proofs.Answering.{blank-ready}
 use Rattle.blocks.specs.Kept.{keptOf, Begins}
 use Rattle.blocks.proofs.start.Statement.{statement}
 use Rattle.blocks.proofs.start.Tie as tie

@@ -8,6 +8,7 @@ use Rattle.dealing.specs.Deal.{enough}
 use Rattle.dealing.proofs.Lapping.{Lapping, lap-starts, lap-next, lap-skips, lap-good, lap-ends}
 use Rattle.dealing.proofs.Laps.{left}
 use Rattle.dealing.proofs.Settling.{Going, starts, goes-on, falls, same-count, ends, reached}
+use Rattle.dealing.proofs.Theorem.{run-kept}
 use Rattle.dealing.proofs.run.Statement.{statement}
 use Rattle.dealing.proofs.run.Tie as tie
 
@@ -43,7 +44,10 @@ same-length : tie.Need-same-length Inv-loop2 μ-loop2 Inv-loop μ-loop
 same-length c = search needs
 
 returns : tie.Need-returns Inv-loop2 μ-loop2 Inv-loop μ-loop
-returns c = ends gateway gateway-proper _ _ _ (c .before .before .before .loop .inv .0) (sym (c .before .all-idle .ensures) ∙ c .if1 .taken)
+returns c =
+    let pre = c .before .before .before .before .before .before .pre in
+    run-kept gateway gateway-proper _ _ _ (pre .0) (pre .1)
+    (ends gateway gateway-proper _ _ _ (c .before .before .before .loop .inv .0) (sym (c .before .all-idle .ensures) ∙ c .if1 .taken))
 
 loop2-holds : tie.Need-loop2-holds Inv-loop2 μ-loop2 Inv-loop μ-loop
 loop2-holds c = let v = c .before .before .before .loop .inv in

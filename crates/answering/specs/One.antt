@@ -1,0 +1,29 @@
+-- A line to one worker of an open phase, for a loop that keeps the phase in place: what it leaves of the worker, the cells and the buffer.
+use mathlib.Core.Path.{_≡_}
+use mathlib.Core.List.{List, [], _∷_, _++_}
+use Prim.Native.Nat.{ℕ}
+use lib.ListN.{take, drop}
+use Rattle.state.specs.Model.{gateway}
+use Rattle.activities.specs.declared.Worker.{Worker}
+use Rattle.protocol.specs.Split.{oneOrder, oneTurn, oneTable}
+use Rattle.text.specs.Digits.{digitsOf}
+use Rattle.printing.specs.Fields.{PrintedWithin, replyFields, turnFields}
+use Rattle.answering.specs.declared.Ordered.{Ordered}
+use Rattle.answering.specs.declared.Stepped.{Stepped}
+use Rattle.sheet.specs.Replay.{longestAnswer}
+
+-- sheet line n with these fields behind its number
+abbrev pub lineWith : ℕ → List ℕ → List ℕ
+lineWith n fields = digitsOf n ++ (fields ++ 10 ∷ [])
+
+-- line `number`, an order of v to worker a in a phase of kind k, length n and so many insert operations left
+pub record OrderAnswers (k n few : ℕ) (a : Worker) (v number : ℕ) (out : List ℕ) (at : ℕ) (out′ : List ℕ) (r : Ordered) : Type 0 where
+  pub worker : r .worker ≡ oneOrder gateway k n few a v .worker
+  pub left : r .left ≡ oneOrder gateway k n few a v .left
+  pub printed : PrintedWithin longestAnswer (lineWith number (replyFields (oneOrder gateway k n few a v .reply))) out at out′ (r .at)
+
+-- line `number`, a turn of worker a in a phase of kind k and length n, whose table is the first of the cells
+pub record TurnAnswers (k n : ℕ) (a : Worker) (number places : ℕ) (cells out : List ℕ) (at : ℕ) (cells′ out′ : List ℕ) (r : Stepped) : Type 0 where
+  pub worker : r .worker ≡ oneTurn gateway k n (take places cells) a .worker
+  pub store : cells′ ≡ oneTable gateway k n (take places cells) a ++ drop places cells
+  pub printed : PrintedWithin longestAnswer (lineWith number (turnFields (oneTurn gateway k n (take places cells) a .reply))) out at out′ (r .at)

@@ -1,0 +1,334 @@
+// The replay of a shift sheet, line by line: a line answered, and what is kept from line to line.
+use activities::Worker;
+use dealing::Finish;
+use fitting::Reading;
+use fitting::Task;
+use lines::Command;
+use lines::Line;
+use printing::Told;
+use state::Phase;
+use state::Refusal;
+use state::Reply;
+use tables::Counted;
+ghost use mathlib.Core.Path.{_≡_};
+ghost use mathlib.Core.Bool.{true, false};
+ghost use Prim.Native.Nat.{_+_, _≤_, _<_};
+ghost use lib.ListN.{length, take, replicate};
+ghost use Rattle.activities.specs.Activities.{activityOk};
+ghost use Rattle.state.specs.Model.{gateway};
+ghost use Rattle.state.specs.Open.{openCall};
+ghost use Rattle.protocol.specs.Calls.{closeCall, orderCall};
+ghost use Rattle.sheet.specs.Replay.{longestAnswer, blank, cellsTask, turnTask, runTask, listTask, calls, commanded, performed};
+ghost use Rattle.sheet.specs.Valid.{RunFinds};
+ghost use Rattle.answering.specs.Store.{stateOf, replayOf, doneOf, toldOf, Roomy, Does, Ready, Answers};
+ghost use Rattle.answering.specs.One.{OrderAnswers, TurnAnswers};
+ghost use Rattle.dealing.specs.Reached.{Reached};
+
+// What is kept from line to line, beside the lent cells: the phase, and how many of the cells are the table.
+pub struct Replay {
+    pub phase: Phase,
+    pub length: usize,
+}
+
+impl Replay {
+    // The longest table of a sheet.
+    pub const MOST_CELLS: usize = 4096;
+
+    // No output line is longer.
+    pub const LONGEST_ANSWER: usize = 45157;
+}
+
+// The replay after a task, with what it tells and how the operations ended in a run.
+pub struct Done {
+    pub replay: Replay,
+    pub told: Told,
+    pub finishes: [Finish; Phase::ROOM],
+}
+
+// The replay after a line, the place behind what the line printed, and whether the replay ends there.
+pub struct Answered {
+    pub replay: Replay,
+    pub at: usize,
+    pub ended: bool,
+}
+
+// What an order to one worker leaves: the worker, the insert operations left, and the place behind what the line printed.
+pub struct Ordered {
+    pub worker: Worker,
+    pub left: u32,
+    pub at: usize,
+}
+
+// What a turn of one worker leaves: the worker, and the place behind what the line printed.
+pub struct Stepped {
+    pub worker: Worker,
+    pub at: usize,
+}
+
+// A replay before its first line. An opening on one cell is refused.
+pub fn start() -> Replay
+    ensures { λ r. ⌜ r ≡ replayOf blank ⌝ }
+{
+    let one = [0u32; 1];
+    let refused = Phase::open(3, 1, &one);
+    let phase = refused.phase;
+    Replay { phase, length: 0 }
+}
+
+// ---- the tasks
+fn tell(phase: Phase, length: usize, told: Told) -> Done
+    ensures { λ r. ⌜ r ≡ toldOf phase length told ⌝ }
+{
+    let finishes = dealing::no_finishes();
+    Done {
+        replay: Replay { phase, length },
+        told,
+        finishes,
+    }
+}
+
+fn clear(cells: &mut [u32])
+    ensures { λ r. ⌜ now (cells .exit) ≡ replicate (length (now (cells .entry))) 0 ⌝ }
+{
+    let mut i: usize = 0;
+    while i < cells.len() {
+        cells[i] = 0;
+        i += 1;
+    }
+}
+
+fn set_cells(replay: Replay, length: u32, cells: &mut [u32]) -> Done
+    requires { ⌜ Roomy replay (now cells) ⌝ }
+    ensures { λ r. ⌜ Does (cellsTask (stateOf replay (now (cells .entry))) length) (now (cells .entry)) (now (cells .exit)) r ⌝ }
+{
+    let n = length as usize;
+    if n < Phase::FEWEST_CELLS {
+        return tell(
+            replay.phase,
+            replay.length,
+            Told::Replied(Reply::Refused(Refusal::Size)),
+        );
+    }
+    if Replay::MOST_CELLS < n {
+        return tell(
+            replay.phase,
+            replay.length,
+            Told::Replied(Reply::Refused(Refusal::Size)),
+        );
+    }
+    clear(&mut cells[..n]);
+    tell(replay.phase, n, Told::Replied(Reply::Accepted))
+}
+
+fn open_phase(replay: Replay, kind: u32, count: u32, cells: &[u32]) -> Done
+    requires { ⌜ Roomy replay (now cells) ⌝ }
+    ensures { λ r. ⌜ r ≡ doneOf (calls (take (replay .length) (now (cells .entry))) (openCall gateway kind count (take (replay .length) (now (cells .entry))))) ⌝ }
+{
+    let length = replay.length;
+    let replied = Phase::open(kind as u64, count as u64, &cells[..length]);
+    let phase = replied.phase;
+    let reply = replied.reply;
+    tell(phase, length, Told::Replied(reply))
+}
+
+fn give_order(replay: Replay, worker: u32, key: u32) -> Done
+    ensures { λ r. ⌜ r ≡ toldOf (orderCall gateway (replay .phase) worker key .phase) (replay .length) (Told.Replied (orderCall gateway (replay .phase) worker key .reply)) ⌝ }
+{
+    let phase = replay.phase;
+    let replied = calls::order(phase, worker as usize, key);
+    let next = replied.phase;
+    let reply = replied.reply;
+    tell(next, replay.length, Told::Replied(reply))
+}
+
+fn take_turn(replay: Replay, worker: u32, cells: &mut [u32]) -> Done
+    requires { ⌜ Roomy replay (now cells) ⌝ }
+    ensures { λ r. ⌜ Does (turnTask (stateOf replay (now (cells .entry))) worker) (now (cells .entry)) (now (cells .exit)) r ⌝ }
+{
+    let length = replay.length;
+    let phase = replay.phase;
+    let turned = calls::turn(phase, &mut cells[..length], worker as usize);
+    let next = turned.phase;
+    let reply = turned.reply;
+    tell(next, length, Told::Turned(reply))
+}
+
+fn run_out(replay: Replay, cells: &mut [u32]) -> Done
+    requires { ⌜ Roomy replay (now cells) × (Reached gateway (replay .phase) (take (replay .length) (now cells)) × (replay .phase .shut ≡ false)) ⌝ }
+    ensures { λ r. ⌜ Does (runTask (stateOf replay (now (cells .entry)))) (now (cells .entry)) (now (cells .exit)) r ⌝ }
+{
+    let length = replay.length;
+    let phase = replay.phase;
+    let dealt = dealing::run(phase, &mut cells[..length]);
+    let next = dealt.phase;
+    let finishes = dealt.finishes;
+    Done {
+        replay: Replay {
+            phase: next,
+            length,
+        },
+        told: Told::Ran,
+        finishes,
+    }
+}
+
+fn close_phase(replay: Replay) -> Done
+    ensures { λ r. ⌜ r ≡ toldOf (closeCall gateway (replay .phase) .phase) (replay .length) (Told.Replied (closeCall gateway (replay .phase) .reply)) ⌝ }
+{
+    let phase = replay.phase;
+    let replied = calls::close(phase);
+    let next = replied.phase;
+    let reply = replied.reply;
+    tell(next, replay.length, Told::Replied(reply))
+}
+
+fn list_table(replay: Replay, cells: &[u32]) -> Done
+    requires { ⌜ Roomy replay (now cells) ⌝ }
+    ensures { λ r. ⌜ r ≡ doneOf (listTask (stateOf replay (now (cells .entry)))) ⌝ }
+{
+    let length = replay.length;
+    let counted = rest::count(&cells[..length]);
+    match counted {
+        Counted::Keys(count) => tell(replay.phase, length, Told::Listed(count)),
+        Counted::Refused(why) => tell(replay.phase, length, Told::Replied(Reply::Refused(why))),
+    }
+}
+
+// Carries a command out.
+fn carry_out(
+    replay: Replay,
+    command: Command,
+    values: [u32; Line::MOST_NUMBERS],
+    cells: &mut [u32],
+) -> Done
+    requires { ⌜ Roomy replay (now cells) × RunFinds (stateOf replay (now cells)) (Task.Perform command) ⌝ }
+    ensures { λ r. ⌜ Does (commanded (stateOf replay (now (cells .entry))) command values) (now (cells .entry)) (now (cells .exit)) r ⌝ }
+{
+    match command {
+        Command::Cells => set_cells(replay, values[0], cells),
+        Command::Open => open_phase(replay, values[0], values[1], cells),
+        Command::Order => give_order(replay, values[0], values[1]),
+        Command::Turn => take_turn(replay, values[0], cells),
+        Command::Run => run_out(replay, cells),
+        Command::Close => close_phase(replay),
+        Command::List => list_table(replay, cells),
+        Command::Unknown => tell(
+            replay.phase,
+            replay.length,
+            Told::Replied(Reply::Refused(Refusal::Shut)),
+        ),
+    }
+}
+
+fn perform(replay: Replay, task: Task, values: [u32; Line::MOST_NUMBERS], cells: &mut [u32]) -> Done
+    requires { ⌜ Roomy replay (now cells) × RunFinds (stateOf replay (now cells)) task ⌝ }
+    ensures { λ r. ⌜ Does (performed (stateOf replay (now (cells .entry))) task values) (now (cells .entry)) (now (cells .exit)) r ⌝ }
+{
+    match task {
+        Task::Perform(command) => carry_out(replay, command, values, cells),
+        Task::Refuse => tell(
+            replay.phase,
+            replay.length,
+            Told::Replied(Reply::Refused(Refusal::Shut)),
+        ),
+    }
+}
+
+// Answers the sheet's line `number`: moves the replay and the cells on, and prints from `at` on.
+pub fn answer(
+    replay: Replay,
+    number: u64,
+    line: Line,
+    cells: &mut [u32],
+    out: &mut [u8],
+    at: usize,
+) -> Answered
+    requires { ⌜ Ready replay (now cells) × (at + longestAnswer ≤ length (now out)) ⌝ }
+    ensures { λ r. ⌜ Answers (stateOf replay (now (cells .entry))) number line (now (cells .entry)) (now (out .entry)) at (now (cells .exit)) (now (out .exit)) r ⌝ }
+{
+    let from = writing::put_number(out, at, number);
+    let Reading::Todo(task) = dispatching::reading_in(replay.phase.kind, replay.phase.shut, line)
+    else {
+        let end = writing::put_bytes(out, from, b"\tbad\n");
+        return Answered {
+            replay,
+            at: end,
+            ended: true,
+        };
+    };
+    let numbers = line.numbers;
+    let values = numbers.values;
+    let done = perform(replay, task, values, cells);
+    let next = done.replay;
+    let told = done.told;
+    let finishes = done.finishes;
+    let length = next.length;
+    let behind = printing::put_told(
+        out,
+        from,
+        told,
+        next.phase.crew as usize,
+        finishes,
+        &cells[..length],
+    );
+    let end = writing::put_bytes(out, behind, b"\n");
+    Answered {
+        replay: next,
+        at: end,
+        ended: false,
+    }
+}
+
+// ---- lines to one worker of an open phase, for a loop that keeps the phase in place: only the worker goes by value
+// Answers the line `number`, an order of `key` to this worker, and prints from `at` on.
+pub fn answer_order(
+    kind: u32,
+    size: u32,
+    left: u32,
+    worker: Worker,
+    key: u32,
+    number: u64,
+    out: &mut [u8],
+    at: usize,
+) -> Ordered
+    requires { ⌜ (0 < size) × (at + longestAnswer ≤ length (now out)) ⌝ }
+    ensures { λ r. ⌜ OrderAnswers kind size left worker key number (now (out .entry)) at (now (out .exit)) r ⌝ }
+{
+    let from = writing::put_number(out, at, number);
+    let given = calls::one_order(kind, size, left, worker, key);
+    let next = given.worker;
+    let reply = given.reply;
+    let behind = printing::put_reply(out, from, reply);
+    let end = writing::put_bytes(out, behind, b"\n");
+    Ordered {
+        worker: next,
+        left: given.left,
+        at: end,
+    }
+}
+
+// Answers the line `number`, a turn of this worker on the first `places` cells, and prints from `at` on.
+pub fn answer_turn(
+    kind: u32,
+    size: u32,
+    worker: Worker,
+    number: u64,
+    cells: &mut [u32],
+    places: usize,
+    out: &mut [u8],
+    at: usize,
+) -> Stepped
+    requires { ⌜ (activityOk kind size (worker .activity) ≡ true) × ((size ≡ places) × ((places ≤ length (now cells)) × (at + longestAnswer ≤ length (now out)))) ⌝ }
+    ensures { λ r. ⌜ TurnAnswers kind size worker number places (now (cells .entry)) (now (out .entry)) at (now (cells .exit)) (now (out .exit)) r ⌝ }
+{
+    let from = writing::put_number(out, at, number);
+    let moved = calls::one_turn(kind, size, &mut cells[..places], worker);
+    let next = moved.worker;
+    let reply = moved.reply;
+    let behind = printing::put_turn(out, from, reply);
+    let end = writing::put_bytes(out, behind, b"\n");
+    Stepped {
+        worker: next,
+        at: end,
+    }
+}

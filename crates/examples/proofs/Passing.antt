@@ -1,0 +1,353 @@
+-- Each example as a test that computes, and the laws that turn a passed test into what the example says.
+use mathlib.Core.Path.{_≡_, refl, sym, ap, ap₂, _∙_, subst}
+use mathlib.Core.Bool.{Bool, true, false, not, cond, _&&_}
+use mathlib.Core.List.{List, [], _∷_, _++_}
+use Prim.Native.Nat.{ℕ, zero, suc, _*_, _≤_, _<_}
+use native.Mathlib.Nat.{zero-add, zero-lt-suc, mod-lt}
+use native.Mathlib.Omega.{arith}
+use borrow.Author.Tests.{le-ltb}
+use lib.Dec.{T, eqb, ltb, eqb→eq, T-not}
+use lib.ListN.{length, getD, take, drop, length-replicate}
+use Rattle.ring.proofs.Tests.{within-says}
+use Rattle.layout.specs.Home.{modulo}
+use Rattle.layout.specs.Layout.{descending, placeAll, layout}
+use Rattle.layout.specs.Sound.{Sound, isSound}
+use Rattle.layout.proofs.Sound.{isSound-of}
+use Rattle.layout.proofs.Theorem.{theorem as layouts}
+use Rattle.layout.proofs.Tests.{and-left, and-right}
+use Rattle.words.specs.Words.{occupied, keysOf, filled, group, wordOf, countOf}
+use Rattle.words.proofs.Places.{place-is, count-occupied}
+use Rattle.activities.specs.declared.Activity.{Activity}
+use Rattle.activities.specs.declared.Activity.the-variants.{Idle, Reading, Replacing, WalkingBack, SeekingForward, SeekingBack}
+use Rattle.activities.specs.declared.Worker.{Worker}
+use Rattle.rule.specs.declared.Answer.{Answer}
+use Rattle.rule.specs.Schedules.{sameTable, sameBit, closesRight}
+use Rattle.rule.proofs.Schedules.{same-table, same-bit, closes}
+use Rattle.state.specs.Model.{gateway, sizeOk}
+use Rattle.state.specs.Open.{openReply, openCall}
+use Rattle.state.specs.Refusals.{replyNumber, if, firstOf}
+use Rattle.state.specs.declared.Phase.{Phase}
+use Rattle.state.specs.declared.Refusal.the-variants.{Size, ShortList}
+use Rattle.state.specs.declared.Reply.{Reply}
+use Rattle.state.specs.declared.Reply.the-variants.{Accepted, Refused}
+use Rattle.protocol.specs.Calls.{turnNumber, turnCall, turnTable}
+use Rattle.protocol.specs.IsWellFormed.{isWellFormed}
+use Rattle.protocol.specs.WellFormed.{WellFormed}
+use Rattle.protocol.specs.declared.TurnReply.the-variants.{Answered}
+use Rattle.protocol.proofs.Theorem.{well-formed, orders, turns, closes as closings}
+use Rattle.tables.specs.Calls.{countNumber, countValue, countedBy, ifCounted, tableBars, checkCall, listBars, listCall}
+use Rattle.tables.specs.declared.Counted.{Counted}
+use Rattle.tables.specs.declared.Counted.the-variants as counted
+use Rattle.history.specs.History.{after}
+use Rattle.history.specs.History as history
+use Rattle.numbered.specs.Lists.{answersOf}
+use Rattle.numbered.specs.Numbers.{turnAnswer}
+use Rattle.numbered.proofs.Numbers as numbers
+use Rattle.examples.specs.Forms.{Example, laid, unsound, word, counting, listing, opening, empties, calling, tracing, refusing, bound, closing}
+use Rattle.examples.specs.Forms.{Told, emptyCells, alone, callsOf, answersTold, Spoilt, Unspoilt, Says, AllSay}
+
+is-true : (b : Bool) → T b → b ≡ true
+is-true true p = refl
+is-true false p = absurd p
+
+-- ---- equal activities, workers and phase states: an activity is told by its numbers
+unfoldable pub codeOf : Activity → List ℕ
+codeOf Idle = 0 ∷ []
+codeOf (Reading v i) = 1 ∷ v ∷ i ∷ []
+codeOf (Replacing v k j x) = 2 ∷ v ∷ k ∷ j ∷ x ∷ []
+codeOf (WalkingBack v k) = 3 ∷ v ∷ k ∷ []
+codeOf (SeekingForward v k j) = 4 ∷ v ∷ k ∷ j ∷ []
+codeOf (SeekingBack v k j x p) = 5 ∷ v ∷ k ∷ j ∷ x ∷ p ∷ []
+
+abbrev activity-of : List ℕ → Activity
+activity-of c =
+    let at : ℕ → ℕ = λ i. getD c i 0 in
+    getD (
+    Idle
+    ∷ Reading (at 1) (at 2)
+    ∷ Replacing (at 1) (at 2) (at 3) (at 4)
+    ∷ WalkingBack (at 1) (at 2)
+    ∷ SeekingForward (at 1) (at 2) (at 3)
+    ∷ SeekingBack (at 1) (at 2) (at 3) (at 4) (at 5)
+    ∷ []
+    ) (at 0) Idle
+
+told-by-code : (a : Activity) → activity-of (codeOf a) ≡ a
+unfolding codeOf
+told-by-code Idle = refl
+told-by-code (Reading v i) = refl
+told-by-code (Replacing v k j x) = refl
+told-by-code (WalkingBack v k) = refl
+told-by-code (SeekingForward v k j) = refl
+told-by-code (SeekingBack v k j x p) = refl
+
+unfoldable pub sameWorkers : List Worker → List Worker → Bool
+sameWorkers [] [] = true
+sameWorkers [] (v ∷ vs) = false
+sameWorkers (w ∷ ws) [] = false
+sameWorkers (w ∷ ws) (v ∷ vs) = sameTable (codeOf (w .activity)) (codeOf (v .activity)) && sameWorkers ws vs
+
+same-activity : (a b : Activity) → T (sameTable (codeOf a) (codeOf b)) → a ≡ b
+same-activity a b p = sym (told-by-code a) ∙ ap activity-of (same-table (codeOf a) (codeOf b) p) ∙ told-by-code b
+
+same-workers : (ws vs : List Worker) → T (sameWorkers ws vs) → ws ≡ vs
+unfolding sameWorkers
+same-workers [] [] p = refl
+same-workers [] (v ∷ vs) p = absurd p
+same-workers (w ∷ ws) [] p = absurd p
+same-workers (w ∷ ws) (v ∷ vs) p =
+    let q = sameTable (codeOf (w .activity)) (codeOf (v .activity)) in
+    let e : w .activity ≡ v .activity = same-activity (w .activity) (v .activity) (and-left q (sameWorkers ws vs) p) in
+    ap₂ (λ (x : Activity) (l : List Worker). record { activity = x } ∷ l) e (same-workers ws vs (and-right q (sameWorkers ws vs) p))
+
+unfoldable pub samePhase : Phase → Phase → Bool
+samePhase p q =
+    sameTable (p .kind ∷ p .length ∷ p .crew ∷ p .left ∷ []) (q .kind ∷ q .length ∷ q .crew ∷ q .left ∷ [])
+    && (sameBit (p .shut) (q .shut) && sameWorkers (p .workers) (q .workers))
+
+same-phase : (p q : Phase) → T (samePhase p q) → p ≡ q
+unfolding samePhase
+same-phase p q h =
+    let xs : List ℕ = p .kind ∷ p .length ∷ p .crew ∷ p .left ∷ [] in
+    let ys : List ℕ = q .kind ∷ q .length ∷ q .crew ∷ q .left ∷ [] in
+    let e : xs ≡ ys = same-table xs ys (and-left (sameTable xs ys) _ h) in
+    let rest = and-right (sameTable xs ys) (sameBit (p .shut) (q .shut) && sameWorkers (p .workers) (q .workers)) h in
+    let shut : p .shut ≡ q .shut = same-bit (p .shut) (q .shut) (and-left (sameBit (p .shut) (q .shut)) _ rest) in
+    let workers : p .workers ≡ q .workers = same-workers (p .workers) (q .workers) (and-right (sameBit (p .shut) (q .shut)) _ rest) in
+    λ i.
+    record {
+      kind = getD (e i) 0 0;
+      length = getD (e i) 1 0;
+      crew = getD (e i) 2 0;
+      left = getD (e i) 3 0;
+      shut = shut i;
+      workers = workers i;
+    }
+
+-- ---- check, count and list, with the number of labels for the count of ones
+module _ (t out : List ℕ) where
+  abbrev counts : ℕ → Counted
+  counts c = countedBy c (checkCall gateway t)
+
+  abbrev lists : ℕ → Counted
+  lists c = countedBy c (firstOf (tableBars gateway t ++ if (ltb (length out) c) ShortList ∷ []))
+
+-- ---- n empty cells
+blank-length : (n : ℕ) → length (emptyCells n) ≡ n
+blank-length n = length-replicate n 0
+
+-- sound, if there are any: they are the layout of no keys
+blank-sound : (n : ℕ) → 0 < n → isSound (length (emptyCells n)) (modulo (length (emptyCells n))) (emptyCells n) ≡ true
+unfolding layout placeAll descending
+blank-sound n some =
+    let s : Sound n (modulo n) (emptyCells n) = layouts n (modulo n) (λ x. mod-lt x some) .sound [] some in
+    rw (blank-length n) (is-true (isSound n (modulo n) (emptyCells n)) (isSound-of n (modulo n) (emptyCells n) s))
+
+-- no labels
+blank-count : (n : ℕ) → occupied (emptyCells n) ≡ 0
+blank-count zero = refl
+blank-count (suc n) = zero-add (occupied (emptyCells n)) ∙ blank-count n
+
+-- by their number alone
+abbrev sized : ℕ → Reply
+sized n = cond (not (sizeOk gateway n)) (Refused Size) Accepted
+
+blank-check : (n : ℕ) → checkCall gateway (emptyCells n) ≡ sized n
+blank-check zero = refl
+blank-check (suc n) = rw (blank-sound (suc n) (zero-lt-suc n), blank-length n)
+
+blank-open : (n k m : ℕ) → (1 ≤ k) × (k ≤ 3) → (1 ≤ m) × (m ≤ 16) → openReply gateway k m (emptyCells n) ≡ sized n
+blank-open zero k m kind crew = refl
+blank-open (suc n) k m kind crew =
+    rw (blank-sound (suc n) (zero-lt-suc n), within-says 1 16 m .1 crew, within-says 1 3 k .1 kind, blank-length n)
+
+no-value : (r : Reply) → countValue (countedBy 0 r) ≡ 0
+no-value Accepted = refl
+no-value (Refused r) = refl
+
+blank-value : (n : ℕ) → countValue (countedBy (countOf (emptyCells n)) (sized n)) ≡ 0
+blank-value n = ap (λ (c : ℕ). countValue (countedBy c (sized n))) (count-occupied (emptyCells n) ∙ blank-count n) ∙ no-value (sized n)
+
+blank-lists : (n : ℕ) (out : List ℕ) → firstOf (listBars gateway (emptyCells n) out) ≡ sized n
+blank-lists zero out = refl
+blank-lists (suc n) out =
+    let none : countOf (emptyCells (suc n)) ≡ 0 = count-occupied (emptyCells (suc n)) ∙ blank-count (suc n) in
+    let l : countOf (emptyCells (suc n)) ≤ length out = omega arith in
+    rw (blank-sound (suc n) (zero-lt-suc n), le-ltb (length out) (countOf (emptyCells (suc n))) l, blank-length n)
+
+no-keys : (n : ℕ) → keysOf (emptyCells n) ≡ []
+no-keys zero = refl
+no-keys (suc n) = no-keys n
+
+-- nothing is filled in
+blank-filled : (n : ℕ) (out : List ℕ) → filled (emptyCells n) out ≡ out
+blank-filled n out = ap₂ (λ (l : List ℕ) (c : ℕ). l ++ drop c out) (no-keys n) (blank-count n)
+
+either : (a : Counted) (x y : List ℕ) → x ≡ y → ifCounted a x y ≡ y
+either (counted.Keys c) x y e = e
+either (counted.Refused r) x y e = refl
+
+count-number : (c : ℕ) (r : Reply) → countNumber (countedBy c r) ≡ replyNumber r
+count-number c Accepted = refl
+count-number c (Refused r) = refl
+
+-- ---- spoilt or not
+unspoilt : (p : Phase) → T (isWellFormed gateway p) → Unspoilt p
+unspoilt p h w v t =
+    let good : WellFormed gateway p = well-formed gateway p .0 (is-true (isWellFormed gateway p) h) in (
+      λ e. orders gateway p w v .answers .0 .0 e .1 good,
+      λ e. turns gateway p t w .answers .0 .0 e .1 good,
+      λ e. closings gateway p .answers .0 .0 e .1 good,
+    )
+
+spoilt : (p : Phase) → T (not (isWellFormed gateway p)) → Spoilt p
+spoilt p h w v t =
+    let bad : WellFormed gateway p → ⊥ = λ g. T-not (isWellFormed gateway p) h (subst T (sym (well-formed gateway p .1 g)) tt) in
+    (orders gateway p w v .answers .0 .1 (tt, bad), turns gateway p t w .answers .0 .1 (tt, bad), closings gateway p .answers .0 .1 (tt, bad))
+
+-- ---- the test
+unfoldable pub passes : Example → Bool
+passes (laid n keys t) = sameTable (layout n (modulo n) keys) t
+passes (unsound t) = not (isSound (length t) (modulo (length t)) t)
+passes (word t g w place) = eqb (wordOf (group t g)) w && eqb (occupied (take (64 * g) t)) place
+passes (counting t r c) = let a = counts t [] (occupied t) in sameTable (replyNumber (checkCall gateway t) ∷ countNumber a ∷ countValue a ∷ []) (r ∷ r ∷ c ∷ [])
+passes (listing t out r c u front) =
+    let a = lists t out (occupied t) in
+    sameTable (countNumber a ∷ countValue a ∷ []) (r ∷ c ∷ [])
+    && (sameTable (ifCounted a (filled t out) out) u && sameTable (ifCounted a (keysOf t) []) front)
+passes (opening k m t r p) = let o = openCall gateway k m t in eqb (replyNumber (o .reply)) r && samePhase (o .phase) p
+passes (empties n r) = eqb (replyNumber (sized n)) r
+passes (calling k m t cs i u) =
+    let s = after gateway k m t (callsOf cs) in
+    sameTable (replyNumber (openReply gateway k m t) ∷ answersOf gateway (callsOf cs) (history.opening gateway k m t)) (0 ∷ answersTold cs)
+    && (s .closed && sameTable (s .counted ∷ s .table) (i ∷ u))
+passes (tracing k t a r b u) =
+    let o = turnCall gateway (alone k (length t) a) t 0 in
+    samePhase (o .phase) (alone k (length t) b)
+    && sameTable (turnAnswer (o .reply) ∷ turnTable gateway (alone k (length t) a) t 0) (turnAnswer (Answered r) ∷ u)
+passes (refusing p t w r) =
+    let o = turnCall gateway p t w in samePhase (o .phase) p && sameTable (turnNumber (o .reply) ∷ turnTable gateway p t w) (r ∷ t)
+passes (bound p q) = isWellFormed gateway p && not (isWellFormed gateway q)
+passes (closing s) = closesRight s
+
+-- ---- what a passed test says
+abbrev head : List ℕ → ℕ
+head xs = getD xs 0 0
+
+-- of two lists with the same first number and the same others
+same-first : (x y : ℕ) (xs ys : List ℕ) → T (sameTable (x ∷ xs) (y ∷ ys)) → (x ≡ y) × (xs ≡ ys)
+same-first x y xs ys p = let e : x ∷ xs ≡ y ∷ ys = same-table (x ∷ xs) (y ∷ ys) p in (ap head e, ap (λ (l : List ℕ). drop 1 l) e)
+
+listing-says : (t out : List ℕ) (r c : ℕ) (u front : List ℕ) → T (passes (listing t out r c u front)) → Says (listing t out r c u front)
+unfolding passes
+listing-says t out r c u front p =
+    let Lists : ℕ → Type 0 = λ x.
+    (countNumber (lists t out x) ≡ r)
+    × (countValue (lists t out x) ≡ c)
+    × (ifCounted (lists t out x) (filled t out) out ≡ u)
+    × (ifCounted (lists t out x) (keysOf t) [] ≡ front)
+    in
+    let a = lists t out (occupied t) in
+    let one = sameTable (countNumber a ∷ countValue a ∷ []) (r ∷ c ∷ []) in
+    let two = sameTable (ifCounted a (filled t out) out) u in
+    let three = sameTable (ifCounted a (keysOf t) []) front in
+    let both = same-first (countNumber a) r _ _ (and-left one (two && three) p) in
+    let q = and-right one (two && three) p in
+    subst Lists (sym (count-occupied t)) (
+      both .0,
+      ap head (both .1),
+      same-table (ifCounted a (filled t out) out) u (and-left two three q),
+      same-table (ifCounted a (keysOf t) []) front (and-right two three q),
+    )
+
+counting-says : (t : List ℕ) (r c : ℕ) → T (passes (counting t r c)) → Says (counting t r c)
+unfolding passes
+counting-says t r c p =
+    let Counts : ℕ → Type 0 = λ x. (replyNumber (checkCall gateway t) ≡ r) × (countNumber (counts t [] x) ≡ r) × (countValue (counts t [] x) ≡ c) in
+    let a = counts t [] (occupied t) in
+    let e = same-first (replyNumber (checkCall gateway t)) r (countNumber a ∷ countValue a ∷ []) (r ∷ c ∷ []) p in
+    subst Counts (sym (count-occupied t)) (e .0, ap head (e .1), ap (λ (l : List ℕ). getD l 1 0) (e .1))
+
+blank-says : (n r : ℕ) → T (passes (empties n r)) → Says (empties n r)
+unfolding passes
+blank-says n r p =
+    let is : replyNumber (sized n) ≡ r = eqb→eq (replyNumber (sized n)) r p in
+    let check = ap replyNumber (blank-check n) ∙ is in (
+      λ k m kind crew. ap replyNumber (blank-open n k m kind crew) ∙ is,
+      check,
+      count-number (countOf (emptyCells n)) (checkCall gateway (emptyCells n)) ∙ check,
+      ap (λ (x : Reply). countValue (countedBy (countOf (emptyCells n)) x)) (blank-check n) ∙ blank-value n,
+      λ out. (
+        count-number (countOf (emptyCells n)) (firstOf (listBars gateway (emptyCells n) out)) ∙ ap replyNumber (blank-lists n out) ∙ is,
+        either (listCall gateway (emptyCells n) out) (filled (emptyCells n) out) out (blank-filled n out),
+      ),
+    )
+
+calling-says : (k m : ℕ) (t : List ℕ) (cs : List Told) (i : ℕ) (u : List ℕ) → T (passes (calling k m t cs i u)) → Says (calling k m t cs i u)
+unfolding passes
+calling-says k m t cs i u p =
+    let s = after gateway k m t (callsOf cs) in
+    let answers = answersOf gateway (callsOf cs) (history.opening gateway k m t) in
+    let opens = replyNumber (openReply gateway k m t) in
+    let one = sameTable (opens ∷ answers) (0 ∷ answersTold cs) in
+    let three = sameTable (s .counted ∷ s .table) (i ∷ u) in
+    let e = same-first opens 0 answers (answersTold cs) (and-left one (s .closed && three) p) in
+    let q = and-right one (s .closed && three) p in
+    let f = same-first (s .counted) i (s .table) u (and-right (s .closed) three q) in
+    (e .0, e .1, f .0, is-true (s .closed) (and-left (s .closed) three q), f .1)
+
+tracing-says : (k : ℕ) (t : List ℕ) (a : Activity) (r : Answer) (b : Activity) (u : List ℕ) → T (passes (tracing k t a r b u)) → Says (tracing k t a r b u)
+unfolding passes
+tracing-says k t a r b u p =
+    let o = turnCall gateway (alone k (length t) a) t 0 in
+    let cells = turnTable gateway (alone k (length t) a) t 0 in
+    let one = samePhase (o .phase) (alone k (length t) b) in
+    let two = sameTable (turnAnswer (o .reply) ∷ cells) (turnAnswer (Answered r) ∷ u) in
+    let phase : o .phase ≡ alone k (length t) b = same-phase (o .phase) (alone k (length t) b) (and-left one two p) in
+    let e = same-first (turnAnswer (o .reply)) (turnAnswer (Answered r)) cells u (and-right one two p) in
+    let reply : o .reply ≡ Answered r = numbers.numbers-promise .turns (o .reply) (Answered r) (e .0) in
+    (λ i. record { phase = phase i; reply = reply i }, e .1)
+
+refusing-says : (p : Phase) (t : List ℕ) (w r : ℕ) → T (passes (refusing p t w r)) → Says (refusing p t w r)
+unfolding passes
+refusing-says p t w r h =
+    let o = turnCall gateway p t w in
+    let one = samePhase (o .phase) p in
+    let two = sameTable (turnNumber (o .reply) ∷ turnTable gateway p t w) (r ∷ t) in
+    let e = same-first (turnNumber (o .reply)) r (turnTable gateway p t w) t (and-right one two h) in
+    (e .0, same-phase (o .phase) p (and-left one two h), e .1)
+
+passes-says : (e : Example) → T (passes e) → Says e
+unfolding passes
+passes-says (laid n keys t) p = same-table (layout n (modulo n) keys) t p
+passes-says (unsound t) p = λ s. T-not (isSound (length t) (modulo (length t)) t) p (isSound-of (length t) (modulo (length t)) t s)
+passes-says (word t g w place) p =
+    let one = eqb (wordOf (group t g)) w in
+    let two = eqb (occupied (take (64 * g) t)) place in
+    (eqb→eq (wordOf (group t g)) w (and-left one two p), place-is t g ∙ eqb→eq (occupied (take (64 * g) t)) place (and-right one two p))
+passes-says (counting t r c) p = counting-says t r c p
+passes-says (listing t out r c u front) p = listing-says t out r c u front p
+passes-says (opening k m t r p) h =
+    let o = openCall gateway k m t in
+    let one = eqb (replyNumber (o .reply)) r in
+    let two = samePhase (o .phase) p in
+    (eqb→eq (replyNumber (o .reply)) r (and-left one two h), same-phase (o .phase) p (and-right one two h))
+passes-says (empties n r) p = blank-says n r p
+passes-says (calling k m t cs i u) p = calling-says k m t cs i u p
+passes-says (tracing k t a r b u) p = tracing-says k t a r b u p
+passes-says (refusing p t w r) h = refusing-says p t w r h
+passes-says (bound p q) h =
+    let one = isWellFormed gateway p in
+    let two = not (isWellFormed gateway q) in
+    (unspoilt p (and-left one two h), spoilt q (and-right one two h))
+passes-says (closing s) p = closes s p
+
+-- ---- of a list of examples
+unfoldable pub allPass : List Example → Bool
+allPass [] = true
+allPass (e ∷ es) = passes e && allPass es
+
+pub all-say : (es : List Example) → T (allPass es) → AllSay es
+unfolding allPass
+all-say [] p = tt
+all-say (e ∷ es) p = (passes-says e (and-left (passes e) (allPass es) p), all-say es (and-right (passes e) (allPass es) p))

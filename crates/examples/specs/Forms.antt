@@ -1,0 +1,165 @@
+-- The forms that a worked example may have, and what an example of each form says. Numbers of refusals are document 01's, 0 where there is none.
+use mathlib.Core.Path.{_≡_}
+use mathlib.Core.Logic.{_≢_}
+use mathlib.Core.Bool.{Bool, true, false}
+use mathlib.Core.List.{List, [], _∷_, map}
+use Prim.Native.Nat.{ℕ, _≤_}
+use lib.ListN.{length, set, replicate}
+use Rattle.layout.specs.Home.{modulo}
+use Rattle.layout.specs.Layout.{layout}
+use Rattle.layout.specs.Sound.{Sound}
+use Rattle.words.specs.Words.{group, wordOf, placeOf}
+use Rattle.activities.specs.declared.Activity.{Activity}
+use Rattle.activities.specs.declared.Activity.the-variants as activity
+use Rattle.activities.specs.declared.Worker.{Worker}
+use Rattle.rule.specs.declared.Answer.{Answer}
+use Rattle.rule.specs.Schedules.{Schedule, Closes}
+use Rattle.state.specs.Model.{gateway}
+use Rattle.state.specs.Open.{openReply, openCall}
+use Rattle.state.specs.Refusals.{replyNumber}
+use Rattle.state.specs.declared.Phase.{Phase}
+use Rattle.protocol.specs.Calls.{turnNumber, closeCall, orderCall, turnCall, turnTable}
+use Rattle.protocol.specs.declared.TurnReply.the-variants.{Answered}
+use Rattle.tables.specs.Calls.{countNumber, countValue, checkCall, countCall, listCall, listAfter, listFront}
+use Rattle.history.specs.History.{Call, turn, after}
+use Rattle.history.specs.History as history
+use Rattle.numbered.specs.Lists.{answersOf}
+use Rattle.numbered.specs.Numbers as numbers
+
+-- n cells, all empty
+abbrev pub emptyCells : ℕ → List ℕ
+emptyCells n = replicate n 0
+
+-- ---- phase states, written out
+-- of kind k with n cells, m workers and so many insert operations (put-in orders) left
+abbrev pub phase : (k n m left : ℕ) → Bool → List Worker → Phase
+phase k n m left shut ws = record { kind = k; length = n; crew = m; left = left; shut = shut; workers = ws }
+
+abbrev pub worker : Activity → Worker
+worker a = record { activity = a }
+
+-- the places for workers
+abbrev pub allIdle : List Worker
+allIdle = replicate 16 (worker activity.Idle)
+
+-- an open phase of m workers, of which worker w is doing a and the others are idle
+abbrev pub busyOne : (k n m w : ℕ) → Activity → Phase
+busyOne k n m w a = phase k n m 0 false (set allIdle w (worker a))
+
+-- the same for one worker alone
+abbrev pub alone : (k n : ℕ) → Activity → Phase
+alone k n a = busyOne k n 1 0 a
+
+-- what a refused opening hands back: a shut record of kind 3, length 2 and one worker, all idle
+abbrev pub handedBack : Phase
+handedBack = phase 3 2 1 0 true allIdle
+
+-- ---- a call with the number of its answer (numbered/specs/Numbers)
+pub record Told : Type 0 where
+  pub call : Call
+  pub answer : ℕ
+
+abbrev pub told : Call → ℕ → Told
+told c a = record { call = c; answer = a }
+
+-- accepted, or refused with a number
+abbrev pub ok : Call → Told
+ok c = told c 0
+
+abbrev pub refuses : Call → ℕ → Told
+refuses c r = told c (numbers.refused r)
+
+-- a turn of worker w that answers went on, finished, yes, no or idle
+abbrev pub on : ℕ → Told
+on w = told (turn w) (numbers.word 1)
+
+abbrev pub done : ℕ → Told
+done w = told (turn w) (numbers.word 2)
+
+abbrev pub found : ℕ → Told
+found w = told (turn w) (numbers.word 3)
+
+abbrev pub missing : ℕ → Told
+missing w = told (turn w) (numbers.word 4)
+
+abbrev pub rests : ℕ → Told
+rests w = told (turn w) (numbers.word 5)
+
+-- ---- the forms
+pub data Example : Type 0 where
+  -- the layout of these keys in n cells is this table
+  laid : (n : ℕ) (keys table : List ℕ) → Example
+  -- the table is not sound
+  unsound : (table : List ℕ) → Example
+  -- the occupancy word of group g, and where the group's keys start in the list
+  word : (table : List ℕ) (g w place : ℕ) → Example
+  -- check and count answer with this number, and the count gives c
+  counting : (table : List ℕ) (number c : ℕ) → Example
+  -- listing into a lent list answers with this number and count, and leaves this list and this front part
+  listing : (table out : List ℕ) (number c : ℕ) (after front : List ℕ) → Example
+  -- an opening of kind k with m workers answers with this number, and gives this phase state
+  opening : (k m : ℕ) (table : List ℕ) (number : ℕ) (p : Phase) → Example
+  -- openings, check, count and list on n empty cells answer with this number; the count gives 0, and the list stays as it is
+  empties : (n number : ℕ) → Example
+  -- from an opening of kind k with m workers on the table, each call is answered as told; so many turns are counted; in the end the phase is
+  -- closed, and this table is left
+  calling : (k m : ℕ) (table : List ℕ) (calls : List Told) (counted : ℕ) (closed : List ℕ) → Example
+  -- one turn of a worker that is doing a, alone in a phase of kind k: it answers r and leaves the worker doing b, and this table
+  tracing : (k : ℕ) (table : List ℕ) (a : Activity) (r : Answer) (b : Activity) (after : List ℕ) → Example
+  -- a turn of worker w is refused with this number, and phase state and table keep their contents
+  refusing : (p : Phase) (table : List ℕ) (w number : ℕ) → Example
+  -- the calls never answer 13 on the phase state p, and always on q
+  bound : (p q : Phase) → Example
+  -- a schedule of a phase closes as written
+  closing : (s : Schedule) → Example
+
+-- ---- what an example says
+-- the calls on p are refused with 13, whatever worker, key and table they get; and in no case
+abbrev pub Spoilt : Phase → Type 0
+Spoilt p = (w v : ℕ) (t : List ℕ)
+    → (replyNumber (orderCall gateway p w v .reply) ≡ 13) × (turnNumber (turnCall gateway p t w .reply) ≡ 13) × (replyNumber (closeCall gateway p .reply) ≡ 13)
+
+abbrev pub Unspoilt : Phase → Type 0
+Unspoilt p = (w v : ℕ) (t : List ℕ)
+    → (replyNumber (orderCall gateway p w v .reply) ≢ 13) × (turnNumber (turnCall gateway p t w .reply) ≢ 13) × (replyNumber (closeCall gateway p .reply) ≢ 13)
+
+abbrev pub callsOf : List Told → List Call
+callsOf cs = map (λ (c : Told). c .call) cs
+
+abbrev pub answersTold : List Told → List ℕ
+answersTold cs = map (λ (c : Told). c .answer) cs
+
+abbrev pub Says : Example → Type 0
+Says (laid n keys t) = layout n (modulo n) keys ≡ t
+Says (unsound t) = Sound (length t) (modulo (length t)) t → ⊥
+Says (word t g w place) = (wordOf (group t g) ≡ w) × (placeOf t g ≡ place)
+Says (counting t r c) = (replyNumber (checkCall gateway t) ≡ r) × (countNumber (countCall gateway t) ≡ r) × (countValue (countCall gateway t) ≡ c)
+Says (listing t out r c u front) =
+    (countNumber (listCall gateway t out) ≡ r)
+    × (countValue (listCall gateway t out) ≡ c)
+    × (listAfter gateway t out ≡ u)
+    × (listFront gateway t out ≡ front)
+Says (opening k m t r p) = (replyNumber (openCall gateway k m t .reply) ≡ r) × (openCall gateway k m t .phase ≡ p)
+Says (empties n r) =
+    ((k m : ℕ) → (1 ≤ k) × (k ≤ 3) → (1 ≤ m) × (m ≤ 16) → replyNumber (openReply gateway k m (emptyCells n)) ≡ r)
+    × (replyNumber (checkCall gateway (emptyCells n)) ≡ r)
+    × (countNumber (countCall gateway (emptyCells n)) ≡ r)
+    × (countValue (countCall gateway (emptyCells n)) ≡ 0)
+    × ((out : List ℕ) → (countNumber (listCall gateway (emptyCells n) out) ≡ r) × (listAfter gateway (emptyCells n) out ≡ out))
+Says (calling k m t cs i u) =
+    (replyNumber (openReply gateway k m t) ≡ 0)
+    × (answersOf gateway (callsOf cs) (history.opening gateway k m t) ≡ answersTold cs)
+    × (after gateway k m t (callsOf cs) .counted ≡ i)
+    × (after gateway k m t (callsOf cs) .closed ≡ true)
+    × (after gateway k m t (callsOf cs) .table ≡ u)
+Says (tracing k t a r b u) =
+    (turnCall gateway (alone k (length t) a) t 0 ≡ record { phase = alone k (length t) b; reply = Answered r })
+    × (turnTable gateway (alone k (length t) a) t 0 ≡ u)
+Says (refusing p t w r) = (turnNumber (turnCall gateway p t w .reply) ≡ r) × (turnCall gateway p t w .phase ≡ p) × (turnTable gateway p t w ≡ t)
+Says (bound p q) = Unspoilt p × Spoilt q
+Says (closing s) = Closes s
+
+-- every example of a list holds
+abbrev pub AllSay : List Example → Type 0
+AllSay [] = Unit {0}
+AllSay (e ∷ es) = Says e × AllSay es

@@ -1,0 +1,196 @@
+-- What is promised of each line of a shift sheet: from its bytes to the state behind it and the bytes printed behind its number, in document 01's words
+-- ("The shift sheet"). Proved in proofs/Theorem.
+use mathlib.Core.Path.{_≡_}
+use mathlib.Core.Logic.{_≢_, _⊎_}
+use mathlib.Core.Bool.{true, false}
+use mathlib.Core.List.{List, [], _∷_, _++_}
+use Prim.Native.Nat.{ℕ, zero, suc, _≤_, _<_}
+use Prim.Native.String.{String}
+use lib.ListN.{length, getD, replicate}
+use Rattle.words.specs.Words.{keysOf}
+use Rattle.rule.specs.declared.Answer.the-variants as answer
+use Rattle.state.specs.Model.{gateway}
+use Rattle.state.specs.Open.{openCall}
+use Rattle.state.specs.Refusals.{numberOf}
+use Rattle.state.specs.declared.Phase.{Phase}
+use Rattle.state.specs.declared.Refusal.{Refusal}
+use Rattle.state.specs.declared.Refusal.the-variants.{Shut}
+use Rattle.state.specs.declared.Replied.{Replied}
+use Rattle.state.specs.declared.Reply.{Reply}
+use Rattle.state.specs.declared.Reply.the-variants.{Accepted, Refused}
+use Rattle.tables.specs.Calls.{checkCall}
+use Rattle.protocol.specs.Calls.{closeCall, orderCall, turnCall, turnTable}
+use Rattle.protocol.specs.declared.TurnReply.{TurnReply}
+use Rattle.protocol.specs.declared.TurnReply.the-variants as turn
+use Rattle.text.specs.Bytes.{bytesOf}
+use Rattle.text.specs.Digits.{digitsOf}
+use Rattle.lines.specs.Grammar.{readingOf}
+use Rattle.dealing.specs.Deal as dealing
+use Rattle.dealing.specs.Deal.{unfinished}
+use Rattle.dealing.specs.Promise.{Runs}
+use Rattle.dealing.specs.declared.Ended.{Ended}
+use Rattle.dealing.specs.declared.Finish.{Finish}
+use Rattle.sheet.specs.Replay.{State, blank, answerOf}
+use Rattle.sheet.specs.Valid.{Valid}
+
+-- ---- lines
+-- numbers, each behind a tab
+abbrev pub numbersText : List ℕ → List ℕ
+numbersText [] = []
+numbersText (n ∷ ns) = bytesOf "\t" ++ (digitsOf n ++ numbersText ns)
+
+-- a line as it is written: a word and its numbers, parted by tabs
+abbrev pub line : String → List ℕ → List ℕ
+line word ns = bytesOf word ++ numbersText ns
+
+-- the first field of a text is f: it is the whole text, or a tab follows
+abbrev pub FirstIs : List ℕ → List ℕ → Type 0
+FirstIs f l = (l ≡ f) ⊎ ((rest : List ℕ) × (l ≡ f ++ (bytesOf "\t" ++ rest)))
+
+-- no number of a line is above this
+abbrev pub greatest : ℕ
+greatest = 4294967295
+
+abbrev pub InRange : List ℕ → Type 0
+InRange [] = Unit {0}
+InRange (n ∷ ns) = (n ≤ greatest) × InRange ns
+
+-- the forms of a line: a word, and how many numbers stand behind it
+pub record Form : Type 0 where
+  pub word : String
+  pub count : ℕ
+
+abbrev pub form : String → ℕ → Form
+form word count = record { word = word; count = count }
+
+abbrev pub forms : List Form
+forms = form "cells" 1 ∷ form "open" 2 ∷ form "order" 2 ∷ form "turn" 1 ∷ form "run" 0 ∷ form "close" 0 ∷ form "list" 0 ∷ []
+
+-- a line that is written in a form
+pub record WrittenIn (f : Form) (l : List ℕ) : Type 0 where
+  pub numbers : List ℕ
+  pub count : length numbers ≡ f .count
+  pub range : InRange numbers
+  pub text : l ≡ line (f .word) numbers
+
+abbrev pub InNone : List Form → List ℕ → Type 0
+InNone [] l = Unit {0}
+InNone (f ∷ fs) l = (WrittenIn f l → ⊥) × InNone fs l
+
+-- an unreadable line: in none of the forms
+abbrev pub Unreadable : List ℕ → Type 0
+Unreadable l = InNone forms l
+
+-- ---- what is printed behind the line's number
+abbrev pub refusedText : ℕ → List ℕ
+refusedText n = bytesOf "\trefused\t" ++ digitsOf n
+
+abbrev pub replyText : Reply → List ℕ
+replyText Accepted = bytesOf "\tok"
+replyText (Refused r) = refusedText (numberOf r)
+
+-- of a turn: went on, finished (yes or no of a look-up), or idle
+abbrev pub turnText : TurnReply → List ℕ
+turnText (turn.Answered answer.WentOn) = bytesOf "\ton"
+turnText (turn.Answered answer.Finished) = bytesOf "\tdone"
+turnText (turn.Answered answer.Yes) = bytesOf "\tyes"
+turnText (turn.Answered answer.No) = bytesOf "\tno"
+turnText (turn.Answered answer.Idle) = bytesOf "\tidle"
+turnText (turn.Refused r) = refusedText (numberOf r)
+
+-- of a worker after a run: nothing has ended, or its finish
+abbrev pub endText : Ended → List ℕ
+endText Ended.Nothing = bytesOf "\t-"
+endText Ended.Finished = bytesOf "\tdone"
+endText Ended.Yes = bytesOf "\tyes"
+endText Ended.No = bytesOf "\tno"
+
+-- one field a worker: of workers 0, 1 and so on, m in all
+abbrev pub workersText : ℕ → (ℕ → List ℕ) → List ℕ
+workersText zero text = []
+workersText (suc m) text = workersText m text ++ text m
+
+-- how worker w of these finished
+abbrev pub finishText : List Finish → ℕ → List ℕ
+finishText fs w = endText (getD fs w unfinished .ended)
+
+-- the count of the labels, then the labels
+abbrev pub listText : List ℕ → List ℕ
+listText ks = numbersText (length ks ∷ ks)
+
+-- ---- what a line does
+abbrev pub stateWith : Phase → List ℕ → State
+stateWith p t = record { phase = p; table = t }
+
+-- in state s the line leaves s′ and prints the text and a newline; the replay goes on
+abbrev pub Does : State → List ℕ → State → List ℕ → Type 0
+Does s l s′ text = answerOf s (readingOf l) ≡ record { state = s′; printed = text ++ bytesOf "\n"; ended = false }
+
+-- it does what a call on the shift record does, and prints the call's answer; the table is kept
+abbrev pub Replies : State → List ℕ → Replied → Type 0
+Replies s l r = Does s l (stateWith (r .phase) (s .table)) (replyText (r .reply))
+
+-- it answers `bad` and ends the replay; nothing changes
+abbrev pub Bad : State → List ℕ → Type 0
+Bad s l = answerOf s (readingOf l) ≡ record { state = s; printed = bytesOf "\tbad\n"; ended = true }
+
+-- ---- in a shut shift
+pub record InShut (s : State) : Type 0 where
+  -- `cells` and a length: 2 to 4,096 here, a fresh empty table
+  pub cells : (n : ℕ) → 2 ≤ n → n ≤ 4096 → Does s (line "cells" (n ∷ [])) (stateWith (s .phase) (replicate n 0)) (bytesOf "\tok")
+  -- else refusal 1 with the old table kept
+  pub cells-refused : (n : ℕ) → n ≤ greatest → ((2 ≤ n) × (n ≤ 4096) → ⊥) → Does s (line "cells" (n ∷ [])) s (refusedText 1)
+  -- `open` kind count
+  pub opening : (k m : ℕ) → k ≤ greatest → m ≤ greatest → Replies s (line "open" (k ∷ m ∷ [])) (openCall gateway k m (s .table))
+  -- in a shut shift `run` and every line whose first field is `order` answer 11
+  pub run : Does s (line "run" []) s (refusedText 11)
+  pub order : (l : List ℕ) → FirstIs (bytesOf "order") l → Does s l s (refusedText 11)
+  -- an unreadable line answers `bad` and ends the replay
+  pub unreadable : (l : List ℕ) → Unreadable l → (FirstIs (bytesOf "order") l → ⊥) → Bad s l
+
+-- ---- in an open shift
+pub record InOpen (s : State) : Type 0 where
+  -- `cells` or `open` in an open shift answers `bad` and ends the replay, whatever follows
+  pub cells : (l : List ℕ) → FirstIs (bytesOf "cells") l → Bad s l
+  pub opening : (l : List ℕ) → FirstIs (bytesOf "open") l → Bad s l
+  -- `order` worker label
+  pub order : (w v : ℕ) → w ≤ greatest → v ≤ greatest → Replies s (line "order" (w ∷ v ∷ [])) (orderCall gateway (s .phase) w v)
+  -- `run` deals turns until all are idle, and gives one field per worker; a shift has at most 16 workers
+  pub run : s .phase .crew ≤ 16
+      → let d = dealing.run gateway (s .phase) (s .table) in
+      Does s (line "run" []) (stateWith (d .dealt .phase) (d .table)) (workersText (s .phase .crew) (finishText (d .dealt .finishes)))
+  pub unreadable : (l : List ℕ) → Unreadable l → Bad s l
+
+-- ---- in either
+pub record InEither (s : State) : Type 0 where
+  -- `turn` worker: the turn's record, table and answer
+  pub turn : (w : ℕ) → w ≤ greatest
+      → let r = turnCall gateway (s .phase) (s .table) w in
+      Does s (line "turn" (w ∷ [])) (stateWith (r .phase) (turnTable gateway (s .phase) (s .table) w)) (turnText (r .reply))
+  -- `close`
+  pub close : Replies s (line "close" []) (closeCall gateway (s .phase))
+  -- `list` gives the count, then the labels, where the check passes the table, and else the check's refusal
+  pub list : checkCall gateway (s .table) ≡ Accepted → Does s (line "list" []) s (listText (keysOf (s .table)))
+  pub list-refused : (r : Refusal) → checkCall gateway (s .table) ≡ Refused r → Does s (line "list" []) s (refusedText (numberOf r))
+
+-- ---- every replay
+pub record SheetPromise : Type 0 where
+  -- before `open` the shift counts as shut; before `cells` the table has length 0
+  pub before-open : blank .phase .shut ≡ true
+  pub before-order : (w v : ℕ) → orderCall gateway (blank .phase) w v .reply ≡ Refused Shut
+  pub before-turn : (t : List ℕ) (w : ℕ) → turnCall gateway (blank .phase) t w .reply ≡ turn.Refused Shut
+  pub before-close : closeCall gateway (blank .phase) .reply ≡ Refused Shut
+  pub before-cells : length (blank .table) ≡ 0
+  -- in every state
+  pub shut : (s : State) → s .phase .shut ≡ true → InShut s
+  pub opened : (s : State) → s .phase .shut ≡ false → InOpen s
+  pub either : (s : State) → InEither s
+  -- a number with a leading zero, or above 4294967295, is read in no line
+  pub leading-zero : (front rest : List ℕ) (b : ℕ) → b ≢ 9 → Unreadable (front ++ (bytesOf "\t0" ++ b ∷ rest))
+  pub above : (front rest : List ℕ) (n : ℕ) → greatest < n → FirstIs (digitsOf n) rest → Unreadable (front ++ (bytesOf "\t" ++ rest))
+  -- lines lead to valid states only, whose open shifts have 1 to 16 workers
+  pub valid-first : Valid blank
+  pub valid : (s : State) → Valid s → (l : List ℕ) → Valid (answerOf s (readingOf l) .state)
+  pub crew : (s : State) → Valid s → s .phase .shut ≡ false → (1 ≤ s .phase .crew) × (s .phase .crew ≤ 16)
+  -- and there a run leaves all workers idle, with `-` exactly for those idle before, else their finish
+  pub ran : (s : State) → Valid s → s .phase .shut ≡ false → Runs gateway (s .phase) (s .table) (dealing.run gateway (s .phase) (s .table))
