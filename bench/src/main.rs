@@ -1,7 +1,6 @@
 //! Prints a table of times: each line is one job on the same input, done by the proved code and by the reference in turn.
 //! The sides alternate, results are compared every round, and the ratio is that of the medians.
 
-use std::collections::BTreeSet;
 use std::fs::{self, File};
 use std::hint::black_box;
 use std::path::Path;
@@ -10,7 +9,7 @@ use std::time::Instant;
 
 use conformance::{close, order, reference_run, turn, Call, Calls};
 use reference::generate::Rng;
-use reference::layout::layout;
+use reference::layout::{layout, Prices, MAX_PRICE};
 use reference::listing;
 use reference::phase::{Activity, Phase};
 
@@ -36,15 +35,21 @@ fn line(name: &str, unit: &str, per: f64, (ours, theirs): (f64, f64)) {
     println!("| {name} | {:.3} {unit} | {:.3} {unit} | {:.2} |", ours * per, theirs * per, ours / theirs);
 }
 
+/// A price for each label.
+fn price(key: u32) -> u32 {
+    1 + key % MAX_PRICE
+}
+
 /// A sound table of 8,192 cells: labels at random, or all at one home in 128.
-fn table(share: f64, crowded: bool) -> Vec<u32> {
+fn table(share: f64, crowded: bool) -> Vec<u64> {
     const CELLS: usize = 8192;
     let mut random = Rng::new(7);
     let labels = (share * CELLS as f64).round() as usize;
-    let mut set = BTreeSet::new();
+    let mut set = Prices::new();
     while set.len() < labels {
         let x = random.below(u32::MAX as usize) as u32;
-        set.insert(if crowded { x / 128 * 128 + 128 } else { x + 1 });
+        let key = if crowded { x / 128 * 128 + 128 } else { x + 1 };
+        set.insert(key, price(key));
     }
     layout(CELLS, &set)
 }
@@ -91,14 +96,15 @@ fn at_rest() {
 }
 
 /// A shift of sixteen workers on 4,096 cells, about 60 % full, recorded once: orders, and turns as chance deals them.
-fn recorded(kind: u64) -> (Vec<u32>, Vec<Call>) {
+fn recorded(kind: u64) -> (Vec<u64>, Vec<Call>) {
     let mut random = Rng::new(kind);
-    let mut set = BTreeSet::new();
+    let mut set = Prices::new();
     while set.len() < if kind == 1 { 1200 } else { 2500 } {
-        set.insert(random.below(u32::MAX as usize) as u32 + 1);
+        let key = random.below(u32::MAX as usize) as u32 + 1;
+        set.insert(key, price(key));
     }
     let opening = layout(4096, &set);
-    let known: Vec<u32> = set.into_iter().collect();
+    let known: Vec<u32> = set.into_keys().collect();
     let mut table = opening.clone();
     let mut phase = Phase::open(kind, 16, &table).expect("a sound table");
     let mut calls = Vec::new();
@@ -107,8 +113,8 @@ fn recorded(kind: u64) -> (Vec<u32>, Vec<Call>) {
         let worker = random.below(16) as u32;
         if phase.workers[worker as usize] == Activity::Idle && orders < 2000 {
             let key = if kind == 1 { random.below(u32::MAX as usize) as u32 + 1 } else { known[random.below(known.len())] };
-            phase.order(worker.into(), key).expect("an order");
-            calls.push(order(worker, key));
+            phase.order(worker.into(), key, price(key)).expect("an order");
+            calls.push(order(worker, key, price(key)));
             orders += 1;
         } else if orders == 2000 && phase.all_idle() {
             break;
@@ -122,7 +128,7 @@ fn recorded(kind: u64) -> (Vec<u32>, Vec<Call>) {
 }
 
 fn turns() {
-    type Run = fn(&Calls, u64, u64, &mut [u32], &mut [u64]) -> u64;
+    type Run = fn(&Calls, u64, u64, &mut [u64], &mut [u64]) -> u64;
     for (kind, name) in [(1, "put in"), (2, "take out"), (3, "look up")] {
         let (opening, calls) = recorded(kind);
         let list = Calls::of(&calls);
@@ -152,22 +158,20 @@ fn sheet(by_run: bool) -> Vec<u8> {
     let mut random = Rng::new(11);
     let mut text = b"cells\t4096\nopen\t1\t16\n".to_vec();
     let mut known = Vec::new();
-    let orders = |text: &mut Vec<u8>, keys: &mut dyn FnMut() -> u32| {
-        for worker in 0..16 {
-            text.extend(format!("order\t{worker}\t{}\n", keys()).bytes());
-        }
-    };
     for _ in 0..220 {
-        orders(&mut text, &mut || {
-            known.push(random.below(u32::MAX as usize) as u32 + 1);
-            *known.last().expect("a key")
-        });
+        for worker in 0..16 {
+            let key = random.below(u32::MAX as usize) as u32 + 1;
+            known.push(key);
+            text.extend(format!("order\t{worker}\t{key}\t{}\n", price(key)).bytes());
+        }
         text.extend(b"run\n");
     }
     text.extend(b"close\nopen\t3\t16\n");
     let mut lines = text.iter().filter(|&&b| b == b'\n').count();
     while lines < 1_000_000 {
-        orders(&mut text, &mut || known[random.below(known.len())]);
+        for worker in 0..16 {
+            text.extend(format!("order\t{worker}\t{}\n", known[random.below(known.len())]).bytes());
+        }
         lines += 16;
         if by_run {
             text.extend(b"run\n");

@@ -10,7 +10,8 @@ use std::path::{Path, PathBuf};
 use std::process::{Command, Output, Stdio};
 use std::thread;
 
-use reference::generate::{sheet, styled, Rng, Style};
+use reference::generate::{price, sheet, styled, Rng, Style};
+use reference::layout::MAX_PRICE;
 use reference::sheet::replay_bytes;
 
 fn program() -> PathBuf {
@@ -23,8 +24,11 @@ fn program() -> PathBuf {
 /// The greatest block that a pipe keeps apart from the next.
 const PACKET: usize = 4096;
 
-/// Bytes of a block: very few, around the 28 that are kept of a line, and a whole packet.
-const CUTS: [usize; 7] = [1, 2, 3, 27, 28, 29, PACKET];
+/// The longest readable line: an order with a price.
+const LONGEST: &[u8] = b"order\t4294967295\t4294967295\t4294967295";
+
+/// Bytes of a block: very few, around those that are kept of a line (one more than the longest readable line has), and a whole packet.
+const CUTS: [usize; 7] = [1, 2, 3, LONGEST.len(), LONGEST.len() + 1, LONGEST.len() + 2, PACKET];
 
 /// As large blocks as an ordinary pipe takes.
 const WHOLE: usize = usize::MAX;
@@ -115,7 +119,7 @@ fn stored_sheets() {
     let mut sheets: Vec<PathBuf> = fs::read_dir(folder).expect("the stored sheets").map(|e| e.expect("an entry").path()).collect();
     sheets.retain(|p| p.extension().is_some_and(|e| e == "sheet"));
     sheets.sort();
-    assert!(sheets.len() >= 10, "{} stored sheets", sheets.len());
+    assert!(sheets.len() >= 30, "{} stored sheets", sheets.len());
     for path in sheets {
         let input = fs::read(&path).expect("a sheet");
         let expected = fs::read(path.with_extension("out")).expect("its output");
@@ -131,7 +135,11 @@ fn long_and_strange_input() {
     let mut order_million = b"order\t".to_vec();
     order_million.extend(vec![b'1'; 1_000_000]);
     let mut after = order_million.clone();
-    after.extend(b"\ncells\t3\nopen\t1\t1\norder\t0\t2\nrun\nclose\nlist\n");
+    after.extend(b"\ncells\t3\nopen\t1\t1\norder\t0\t2\t1\nrun\nclose\nlist\n");
+    let opened = b"cells\t3\nopen\t1\t16\n";
+    let longest = [opened, LONGEST, b"\n", LONGEST, b"\nlist\n"].concat();
+    let one_more = [opened, LONGEST, b"0\nlist\n"].concat();
+    let shut = [LONGEST, b"\n", LONGEST, b"0\nlist"].concat();
     let many: Vec<u8> = b"cells\t4096\nopen\t1\t16\n".iter().copied().chain(b"turn\t3\n".repeat(300_000)).collect();
     for (name, input) in [
         ("no input", &b""[..]),
@@ -142,17 +150,20 @@ fn long_and_strange_input() {
         ("a million bytes", &million),
         ("order with a million digits, shut", &order_million),
         ("the same, and the sheet goes on", &after),
+        ("the longest readable line", &longest),
+        ("one byte more", &one_more),
+        ("the same in a shut shift", &shut),
         ("300,000 turns", &many),
     ] {
         same_cut(name, input, &replay_bytes(input));
     }
 }
 
-/// Lines that put in `keys` by sixteen workers, sixteen orders to a run.
-fn put_in(text: &mut Vec<u8>, cells: usize, keys: impl Iterator<Item = u32>) {
+/// Lines that put in keys with their prices by sixteen workers, sixteen orders to a run.
+fn put_in(text: &mut Vec<u8>, cells: usize, entries: impl Iterator<Item = (u32, u32)>) {
     text.extend(format!("cells\t{cells}\nopen\t1\t16\n").bytes());
-    for (i, key) in keys.enumerate() {
-        text.extend(format!("order\t{}\t{key}\n", i % 16).bytes());
+    for (i, (key, price)) in entries.enumerate() {
+        text.extend(format!("order\t{}\t{key}\t{price}\n", i % 16).bytes());
         if i % 16 == 15 {
             text.extend(b"run\n");
         }
@@ -160,13 +171,16 @@ fn put_in(text: &mut Vec<u8>, cells: usize, keys: impl Iterator<Item = u32>) {
     text.extend(b"run\nclose\n");
 }
 
-/// A table of 4,096 cells filled, listed and emptied: the longest output lines.
+/// A table of 4,096 cells filled, listed and emptied: the longest output lines, with labels of ten digits and prices of seven.
 #[test]
 fn largest_table() {
     let mut text = Vec::new();
-    put_in(&mut text, 4096, (0..4095).map(|i| u32::MAX - i));
+    put_in(&mut text, 4096, (0..4095).map(|i| (u32::MAX - i, MAX_PRICE - i)));
     text.extend(b"list\nlist\nopen\t2\t16\norder\t3\t4294967295\nrun\nclose\nlist\n");
-    same_cut("largest table", &text, &replay_bytes(&text));
+    let expected = replay_bytes(&text);
+    let longest = expected.split(|&b| b == b'\n').map(<[u8]>::len).max();
+    assert!(longest > Some(4095 * "\t4294967295\t9999999".len()), "{longest:?}");
+    same_cut("largest table", &text, &expected);
 }
 
 /// Megabytes of output: lists that fill the output's buffer one at a time, or several with a rest, among lines with short answers.
@@ -175,7 +189,7 @@ fn long_output() {
     let random = &mut Rng::new(5);
     let mut text = Vec::new();
     for (cells, keys, lists) in [(4096, 4095, 60), (1000, 700, 300), (300, 40, 5000)] {
-        put_in(&mut text, cells, (0..keys).map(|_| 1 + random.below(u32::MAX as usize) as u32));
+        put_in(&mut text, cells, (0..keys).map(|_| (1 + random.below(u32::MAX as usize) as u32, price(random))));
         for _ in 0..lists {
             text.extend(b"list\n");
             text.extend(b"turn\t0\n".repeat(random.below(9)));
@@ -184,6 +198,24 @@ fn long_output() {
     let expected = replay_bytes(&text);
     assert!(expected.len() > 6_000_000, "{} bytes of output", expected.len());
     same_cut("long output", &text, &expected);
+}
+
+/// Look-ups of every label of the largest table: a price of up to seven digits for each of sixteen workers on a line, and one by one.
+#[test]
+fn many_prices() {
+    let mut text = Vec::new();
+    put_in(&mut text, 4096, (0..4095).map(|i| (7 + 9 * i, 1 + i * 2441)));
+    text.extend(b"open\t3\t16\n");
+    for i in 0..4095 {
+        text.extend(format!("order\t{}\t{}\n", i % 16, 7 + 9 * i).bytes());
+        match i % 48 {
+            15 | 31 => text.extend(b"run\n"),
+            47 => (0..16).for_each(|worker| text.extend(format!("turn\t{worker}\n").repeat(40).bytes())),
+            _ => (),
+        }
+    }
+    text.extend(b"run\nclose\n");
+    same_cut("many prices", &text, &replay_bytes(&text));
 }
 
 /// Sheets of many packets.
@@ -252,7 +284,7 @@ fn closed_input() {
 /// Input that fails behind some lines; none of them is answered wrongly.
 #[test]
 fn input_that_breaks_off() {
-    let text = b"cells\t3\nopen\t1\t1\norder\t0\t2\nrun\nclose\nlist\n";
+    let text = b"cells\t3\nopen\t1\t1\norder\t0\t2\t1\nrun\nclose\nlist\n";
     let (mut ours, mut theirs) = UnixStream::pair().expect("a pair of sockets");
     // our end is closed with a byte unread: the other end's reads fail once they have brought all that we wrote
     theirs.write_all(b"x").expect("a byte sent");

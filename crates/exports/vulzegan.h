@@ -2,7 +2,10 @@
  *
  * A lent list is a pointer, never null, and the number of its elements.
  * Cells and lists that a function may change overlap no other list of the same call.
- * A table has 2 to 8,192 cells; 0 is an empty cell.
+ *
+ * A cell is a number of 64 bits: a key (1 to 4,294,967,295) times 4,294,967,296, plus its price in cents; 0 is an empty cell.
+ * A price is 1 to 9,999,999. A table has 2 to 8,192 cells.
+ * A table with a cell other than 0 that has no key, or a price outside these limits, is not sound.
  *
  * Every answer is one number of 64 bits: below VULZEGAN_REFUSED it is a value, from there up to VULZEGAN_WORDS a refusal, from there on a word.
  */
@@ -16,43 +19,44 @@
 extern "C" {
 #endif
 
-/* Values: a count, or VULZEGAN_ACCEPTED where a call gives no value and is not refused. */
+/* Values: a count, the price that a find found, or VULZEGAN_ACCEPTED where a call gives no value and is not refused. */
 #define VULZEGAN_ACCEPTED UINT64_C(0)
 
-/* Refusals: VULZEGAN_REFUSED + document 01's number, 1 to 13. A refusal changes nothing. */
+/* Refusals: VULZEGAN_REFUSED + the number of documents 01 and 02, 1 to 14. A refusal changes nothing. */
 #define VULZEGAN_REFUSED UINT64_C(4294967296)
 
-/* Words: the answers of turns that are not refused. */
+/* Words: the answers of turns that are neither refused nor a price. */
 #define VULZEGAN_WORDS UINT64_C(8589934592)
 #define VULZEGAN_WENT_ON (VULZEGAN_WORDS + 1)
 #define VULZEGAN_FINISHED (VULZEGAN_WORDS + 2)
-#define VULZEGAN_YES (VULZEGAN_WORDS + 3)
 #define VULZEGAN_NO (VULZEGAN_WORDS + 4)
 #define VULZEGAN_IDLE (VULZEGAN_WORDS + 5)
 
 /* Whether the table is sound: VULZEGAN_ACCEPTED or a refusal. */
-uint64_t vulzegan_check(const uint32_t *cells, size_t cells_len);
+uint64_t vulzegan_check(const uint64_t *cells, size_t cells_len);
 
 /* How many keys the table has, or a refusal. */
-uint64_t vulzegan_count(const uint32_t *cells, size_t cells_len);
+uint64_t vulzegan_count(const uint64_t *cells, size_t cells_len);
 
-/* The same, and the keys in cell order at the front of out. */
-uint64_t vulzegan_list(const uint32_t *cells, size_t cells_len, uint32_t *out, size_t out_len);
+/* The same, and the cells that have a key, whole and in cell order, at the front of out. */
+uint64_t vulzegan_list(const uint64_t *cells, size_t cells_len, uint64_t *out, size_t out_len);
 
-/* The operations of a list of calls: an order of keys[i] for worker workers[i], a turn of worker workers[i], and a close. */
+/* The operations of a list of calls: an order of keys[i] for worker workers[i], a turn of worker workers[i], and a close.
+ * In an insert phase the order is for keys[i] at prices[i]; in the others prices[i] is not read. Turns and closes read neither. */
 enum { VULZEGAN_ORDER = 1, VULZEGAN_TURN = 2, VULZEGAN_CLOSE = 3 };
 
 /* Opens a phase of a kind (1 insert, 2 delete, 3 find) with count workers on cells: VULZEGAN_ACCEPTED or a refusal.
- * If it opens, applies calls 0, 1, .. in order, as many as the shortest of ops, workers, keys and answers has.
- * answers[i] takes the answer of call i: of an order or a close VULZEGAN_ACCEPTED or a refusal, of a turn a word or a refusal. */
-uint64_t vulzegan_run_calls(uint64_t kind, uint64_t count, uint32_t *cells, size_t cells_len, const uint32_t *ops, size_t ops_len,
+ * If it opens, applies calls 0, 1, .. in order, as many as the shortest of ops, workers, keys, prices and answers has.
+ * answers[i] takes the answer of call i: of an order or a close VULZEGAN_ACCEPTED or a refusal; of a turn a word, a refusal or,
+ * where a find finishes and has found its key, the price of that key. */
+uint64_t vulzegan_run_calls(uint64_t kind, uint64_t count, uint64_t *cells, size_t cells_len, const uint32_t *ops, size_t ops_len,
                             const uint32_t *workers, size_t workers_len, const uint32_t *keys, size_t keys_len,
-                            uint64_t *answers, size_t answers_len);
+                            const uint32_t *prices, size_t prices_len, uint64_t *answers, size_t answers_len);
 
 /* The same, each call by value with the record tested at each, as single calls are: slower. */
-uint64_t vulzegan_run_calls_singly(uint64_t kind, uint64_t count, uint32_t *cells, size_t cells_len, const uint32_t *ops, size_t ops_len,
+uint64_t vulzegan_run_calls_singly(uint64_t kind, uint64_t count, uint64_t *cells, size_t cells_len, const uint32_t *ops, size_t ops_len,
                                    const uint32_t *workers, size_t workers_len, const uint32_t *keys, size_t keys_len,
-                                   uint64_t *answers, size_t answers_len);
+                                   const uint32_t *prices, size_t prices_len, uint64_t *answers, size_t answers_len);
 
 #ifdef __cplusplus
 }

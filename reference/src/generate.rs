@@ -6,7 +6,8 @@
 //! generator replays the shift, to know who is busy and what the table holds;
 //! this only steers its choices.
 
-use crate::phase::{Activity, Phase};
+use crate::layout::{label_of, MAX_PRICE};
+use crate::phase::{Activity, Phase, PUT_IN};
 
 /// A seeded xorshift generator.
 pub struct Rng(u64);
@@ -46,6 +47,18 @@ impl Rng {
         from[self.below(from.len())]
     }
 }
+
+/// A price, often one of few, so that prices tie, fall and rise.
+pub fn price(rng: &mut Rng) -> u32 {
+    match rng.below(8) {
+        0 => rng.within(1, MAX_PRICE as usize) as u32,
+        1 => rng.pick(&[1, MAX_PRICE - 1, MAX_PRICE]),
+        _ => rng.within(1, 4) as u32,
+    }
+}
+
+/// Prices that no label may have.
+pub const WRONG_PRICES: [u32; 5] = [0, MAX_PRICE + 1, MAX_PRICE + 2, u32::MAX - 1, u32::MAX];
 
 /// The styles of chapters.
 #[derive(Clone, Copy, Debug, PartialEq, Eq)]
@@ -133,7 +146,11 @@ fn loose(rng: &mut Rng) -> Vec<u8> {
         .map(|_| match rng.below(14) {
             0 => format!("cells\t{}\n", rng.below(9)),
             1 | 2 => format!("open\t{}\t{}\n", rng.below(5), rng.below(4)),
-            3..=6 => format!("order\t{}\t{}\n", rng.below(4), rng.below(12)),
+            3 | 4 => format!("order\t{}\t{}\n", rng.below(4), rng.below(12)),
+            5 | 6 => {
+                let (worker, label) = (rng.below(4), rng.below(12));
+                format!("order\t{worker}\t{label}\t{}\n", rng.below(4))
+            }
             7..=9 => format!("turn\t{}\n", rng.below(4)),
             10 | 11 => "run\n".to_string(),
             12 => "close\n".to_string(),
@@ -146,7 +163,7 @@ fn loose(rng: &mut Rng) -> Vec<u8> {
 /// A sheet being written, with the shift as it stands after the last line.
 struct Sheet {
     text: Vec<u8>,
-    table: Vec<u32>,
+    table: Vec<u64>,
     phase: Phase,
 }
 
@@ -176,9 +193,13 @@ impl Sheet {
             .expect("the shift is shut and its table sound");
     }
 
-    fn order(&mut self, worker: usize, label: u32) {
-        self.line(&format!("order\t{worker}\t{label}"));
-        let _ = self.phase.order(worker as u64, label);
+    /// The price is written in put-in shifts alone.
+    fn order(&mut self, worker: usize, label: u32, price: u32) {
+        match self.phase.kind {
+            PUT_IN => self.line(&format!("order\t{worker}\t{label}\t{price}")),
+            _ => self.line(&format!("order\t{worker}\t{label}")),
+        }
+        let _ = self.phase.order(worker as u64, label, price);
     }
 
     fn turn(&mut self, worker: usize) {
@@ -316,8 +337,13 @@ fn shift(rng: &mut Rng, plan: &Chapter, kind: u32, sheet: &mut Sheet) {
         return;
     }
     // The labels to order: those of the pool, or those in the table, or so
-    // few that several workers meet at one label.
-    let present: Vec<u32> = sheet.table.iter().copied().filter(|&l| l > 0).collect();
+    // few that several workers meet at one label, at several prices.
+    let present: Vec<u32> = sheet
+        .table
+        .iter()
+        .map(|&cell| label_of(cell))
+        .filter(|&label| label > 0)
+        .collect();
     let labels = match rng.below(8) {
         0 | 1 => (0..rng.within(1, 3))
             .map(|_| rng.pick(&plan.pool))
@@ -335,7 +361,7 @@ fn shift(rng: &mut Rng, plan: &Chapter, kind: u32, sheet: &mut Sheet) {
     for _ in 0..rounds {
         for worker in 0..workers {
             if !rng.once_in(6) {
-                sheet.order(worker, rng.pick(&labels));
+                sheet.order(worker, rng.pick(&labels), price(rng));
             }
         }
         match rng.below(4) {
@@ -386,7 +412,7 @@ fn deal(rng: &mut Rng, labels: &[u32], sheet: &mut Sheet) {
             open_mistake(rng, sheet);
         }
         if rng.once_in(15) {
-            sheet.order(rng.below(workers), rng.pick(labels));
+            sheet.order(rng.below(workers), rng.pick(labels), price(rng));
         }
     }
 }
@@ -412,11 +438,15 @@ fn overtake(rng: &mut Rng, labels: &[u32], sheet: &mut Sheet) {
         if sheet.phase.workers[other] == Activity::Idle {
             let label = match sheet.phase.workers[slow] {
                 Activity::Seeking { hole, .. } if !rng.once_in(4) => {
-                    sheet.table[(hole + rng.below(4)) % sheet.table.len()]
+                    label_of(sheet.table[(hole + rng.below(4)) % sheet.table.len()])
+                }
+                // The label that the slow one is about to write over.
+                Activity::Replacing { found, .. } if label_of(found) > 0 && rng.once_in(2) => {
+                    label_of(found)
                 }
                 _ => rng.pick(labels),
             };
-            sheet.order(other, label);
+            sheet.order(other, label, price(rng));
         }
         for _ in 0..rng.pick(&[3, 10, 40, 40, 40]) {
             if sheet.phase.workers[other] != Activity::Idle {
@@ -437,17 +467,26 @@ fn open_mistake(rng: &mut Rng, sheet: &mut Sheet) {
     let workers = sheet.phase.count;
     let outside = rng.pick(&[workers, workers + 1, 16, 17, 4294967295]);
     let inside = rng.below(workers);
-    match rng.below(6) {
-        0 => sheet.order(outside, rng.below(9) as u32),
-        1 => sheet.order(inside, 0),
+    // Right or wrong, so that each refusal is met with 14 behind it.
+    let price = match rng.once_in(2) {
+        true => price(rng),
+        false => rng.pick(&WRONG_PRICES),
+    };
+    match rng.below(8) {
+        0 => sheet.order(outside, rng.below(9) as u32, price),
+        1 => sheet.order(inside, 0, price),
         2 => {
             // The second one finds the worker busy.
-            sheet.order(inside, rng.within(1, 9) as u32);
-            sheet.order(inside, rng.below(9) as u32);
+            sheet.order(inside, rng.within(1, 9) as u32, 1);
+            sheet.order(inside, rng.below(9) as u32, price);
         }
         3 => sheet.turn(outside),
         4 if !sheet.phase.all_idle() => sheet.close(),
-        _ => sheet.order(outside, 0),
+        5 | 6 if sheet.phase.kind == PUT_IN => {
+            // Also where the orders are used up.
+            sheet.order(inside, rng.within(1, 9) as u32, rng.pick(&WRONG_PRICES));
+        }
+        _ => sheet.order(outside, 0, price),
     }
 }
 
@@ -457,7 +496,7 @@ fn shut_mistake(rng: &mut Rng, sheet: &mut Sheet) {
         0 => "run".to_string(),
         1 => "close".to_string(),
         2 => format!("turn\t{}", rng.pick(&[0, 1, 16, u32::MAX])),
-        3 => format!("order\t{}\t{}", rng.below(20), rng.below(20)),
+        3 => format!("order\t{}\t{}\t1", rng.below(20), rng.below(20)),
         4 => format!("open\t{}\t1", rng.pick(&[0, 4, 5, u32::MAX])),
         5 => format!(
             "open\t{}\t{}",
@@ -479,7 +518,10 @@ fn shut_mistake(rng: &mut Rng, sheet: &mut Sheet) {
                 "order\t0",
                 "order\t0\t01",
                 "order\t00\t1",
-                "order\t0\t1\t2",
+                "order\t0\t1",
+                "order\t0\t1\t0",
+                "order\t0\t1\t2\t3",
+                "order\t0\t1\t01",
                 "order\t0\t1\r",
                 "order\t\0",
                 "order\tx\ty",
@@ -542,6 +584,11 @@ fn damage(rng: &mut Rng, text: &mut Vec<u8>) {
             lines.insert(at, new);
         }
         2 => {
+            // Orders with a price, without and with more: some are bad in each kind of shift.
+            let new = rng.pick(&["order\t0\t1", "order\t0\t1\t1", "order\t0\t1\t1\t1"]);
+            lines.insert(at, new.into());
+        }
+        3 => {
             // In an open shift this ends the replay.
             let new = rng.pick(&["cells\t5", "cells\t1", "open\t1\t1", "open\t9\t99", "cells"]);
             lines.insert(at, new.into());
@@ -597,8 +644,11 @@ fn whole_line(rng: &mut Rng) -> Vec<u8> {
         "order\0",
         "order ",
         "orders\t0\t1",
+        "orders\t0\t1\t1",
         "Order\t0\t1",
+        "Order\t0\t1\t1",
         "order 0 1",
+        "order 0 1 1",
         "ok",
         "# note",
         "\u{e9}",
@@ -612,6 +662,7 @@ fn long_line(rng: &mut Rng) -> Vec<u8> {
         "",
         "turn\t",
         "order\t0\t",
+        "order\t0\t1\t",
         "order\t",
         "cells\t",
         "run",
@@ -626,7 +677,7 @@ fn long_line(rng: &mut Rng) -> Vec<u8> {
 fn damage_line(rng: &mut Rng, line: &mut Vec<u8>) {
     let tabs: Vec<usize> = (0..line.len()).filter(|&i| line[i] == b'\t').collect();
     let place = rng.below(line.len() + 1);
-    match rng.below(11) {
+    match rng.below(12) {
         0 => line.truncate(place),
         1 if !tabs.is_empty() => line.insert(rng.pick(&tabs), b'\t'),
         2 if !tabs.is_empty() => line.insert(rng.pick(&tabs) + 1, b'0'),
@@ -644,6 +695,8 @@ fn damage_line(rng: &mut Rng, line: &mut Vec<u8>) {
         7 => line.insert(place, b'\r'),
         8 => line.extend_from_slice(rng.pick(&["\t", "\t0", "\t\t", " ", "\0"]).as_bytes()),
         9 => line.insert(0, rng.pick(b"\t 0\0")),
+        // A field too few.
+        10 if !tabs.is_empty() => line.truncate(tabs[tabs.len() - 1]),
         _ => {
             let byte = rng.draw() as u8;
             if place < line.len() {

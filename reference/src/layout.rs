@@ -1,9 +1,36 @@
-//! Homes, ways, soundness and the layout of a set.
+//! Contents of cells, homes, ways, soundness and the layout of a set.
 
-use std::collections::BTreeSet;
+use std::collections::BTreeMap;
 
 /// The content of an empty cell.
-pub const EMPTY: u32 = 0;
+pub const EMPTY: u64 = 0;
+
+/// The prices, in cents, that a label may have.
+pub const MIN_PRICE: u32 = 1;
+pub const MAX_PRICE: u32 = 9_999_999;
+
+/// A content is a label times this, plus the price.
+const PRICES: u64 = 4_294_967_296;
+
+/// The content that holds a label and its price.
+pub fn content(label: u32, price: u32) -> u64 {
+    u64::from(label) * PRICES + u64::from(price)
+}
+
+/// The label of a content; 0 if it has none.
+pub fn label_of(content: u64) -> u32 {
+    (content / PRICES) as u32
+}
+
+/// The price beside the label.
+pub fn price_of(content: u64) -> u32 {
+    (content % PRICES) as u32
+}
+
+/// May a label have this price?
+pub fn is_price(price: u32) -> bool {
+    (MIN_PRICE..=MAX_PRICE).contains(&price)
+}
 
 /// The cell where a label's search starts in a table of `n` cells.
 pub fn home(label: u32, n: usize) -> usize {
@@ -44,9 +71,9 @@ pub fn way_passes(label: u32, at: usize, k: usize, n: usize) -> bool {
 }
 
 /// Does the way of `label` in cell `at` hold only greater labels?
-pub fn way_is_greater(table: &[u32], label: u32, at: usize) -> bool {
+pub fn way_is_greater(table: &[u64], label: u32, at: usize) -> bool {
     let home = home(label, table.len());
-    let greater = |&other: &u32| other > label;
+    let greater = |&other: &u64| label_of(other) > label;
     if home <= at {
         table[home..at].iter().all(greater)
     } else {
@@ -54,29 +81,49 @@ pub fn way_is_greater(table: &[u32], label: u32, at: usize) -> bool {
     }
 }
 
-/// Is a cell empty, and does every label's way hold only greater labels?
-pub fn is_sound(table: &[u32]) -> bool {
+/// Is a cell empty, is every other one a label with a price that it may have,
+/// and does every label's way hold only greater labels?
+pub fn is_sound(table: &[u64]) -> bool {
+    let stands = |at: usize, cell: u64| {
+        let label = label_of(cell);
+        label != 0 && is_price(price_of(cell)) && way_is_greater(table, label, at)
+    };
     table.contains(&EMPTY)
         && table
             .iter()
             .enumerate()
-            .all(|(at, &label)| label == EMPTY || way_is_greater(table, label, at))
+            .all(|(at, &cell)| cell == EMPTY || stands(at, cell))
+}
+
+/// For each label its least price.
+pub type Prices = BTreeMap<u32, u32>;
+
+/// The labels of some contents, each with its least price there.
+pub fn least_prices(contents: impl IntoIterator<Item = u64>) -> Prices {
+    let mut prices = Prices::new();
+    for cell in contents {
+        if label_of(cell) != 0 {
+            let least = prices.entry(label_of(cell)).or_insert(price_of(cell));
+            *least = price_of(cell).min(*least);
+        }
+    }
+    prices
 }
 
 /// The layout of a set of labels in `n` cells: from the greatest to the
-/// smallest, each in the first empty cell from its home.
+/// smallest, each in the first empty cell from its home, with its price.
 ///
 /// Panics if the set holds 0 or hasn't fewer labels than cells.
-pub fn layout(n: usize, labels: &BTreeSet<u32>) -> Vec<u32> {
-    assert!(labels.len() < n, "a layout needs an empty cell");
-    assert!(!labels.contains(&EMPTY), "0 is no label");
+pub fn layout(n: usize, prices: &Prices) -> Vec<u64> {
+    assert!(prices.len() < n, "a layout needs an empty cell");
+    assert!(!prices.contains_key(&0), "0 is no label");
     let mut table = vec![EMPTY; n];
-    for &label in labels.iter().rev() {
+    for (&label, &price) in prices.iter().rev() {
         let mut cell = home(label, n);
         while table[cell] != EMPTY {
             cell = next(cell, n);
         }
-        table[cell] = label;
+        table[cell] = content(label, price);
     }
     table
 }

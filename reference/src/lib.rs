@@ -1,5 +1,5 @@
 //! Reference implementation of the gateway's label table, written from
-//! document 01 alone. It shares no code with the product.
+//! documents 01 and 02 alone. It shares no code with the product.
 #![forbid(unsafe_code)]
 
 pub mod generate;
@@ -8,7 +8,7 @@ pub mod listing;
 pub mod phase;
 pub mod sheet;
 
-/// The refusal numbers of document 01.
+/// The refusal numbers of documents 01 and 02.
 pub mod refusal {
     pub const SIZE: u8 = 1;
     pub const CREW: u8 = 2;
@@ -23,4 +23,5 @@ pub mod refusal {
     pub const SHUT: u8 = 11;
     pub const SHORT_LIST: u8 = 12;
     pub const SPOILT: u8 = 13;
+    pub const PRICE: u8 = 14;
 }

@@ -1,43 +1,48 @@
 //! A shift (phase): its record, and the calls open, order, turn and close.
 
-use crate::layout::{before, home, is_sound, next, way_passes, EMPTY};
+use crate::layout::{
+    before, content, home, is_price, is_sound, label_of, next, price_of, way_passes, EMPTY,
+};
 use crate::refusal;
 
 pub const PUT_IN: u32 = 1;
 pub const TAKE_OUT: u32 = 2;
 pub const LOOK_UP: u32 = 3;
 
-/// What a worker is doing.
+/// What a worker is doing. An `entry` is a content; the worker works for its
+/// label.
 #[derive(Clone, Copy, Debug, PartialEq, Eq, Hash)]
 pub enum Activity {
     Idle,
     /// Walking on from the home; `cell` is read next.
     ReadingOn {
-        label: u32,
+        entry: u64,
         cell: usize,
     },
     /// About to replace the content of `cell`.
-    /// Put in: `found` was seen in `cell` itself (`from` is `cell`).
-    /// Take out: `found` was seen in `from` and is to replace `label`.
+    /// Put in: `found` was seen in `cell` itself (`from` is `cell`) and is to
+    /// be replaced by `entry`.
+    /// Take out: `entry` was seen in `cell`, `found` in `from`, and `entry` is
+    /// to be replaced by `found`.
     Replacing {
-        label: u32,
+        entry: u64,
         cell: usize,
-        found: u32,
+        found: u64,
         from: usize,
     },
     /// Walking back towards the home; `cell` is read next.
     WalkingBack {
-        label: u32,
+        entry: u64,
         cell: usize,
     },
-    /// Seeking what is to replace `label` in cell `hole`; `cell` is read next.
-    /// Forward while nothing is taken, then back. `taken` is a content and the
-    /// cell where it was seen.
+    /// Seeking what is to replace `entry`, seen in cell `hole`; `cell` is read
+    /// next. Forward while nothing is taken, then back. `taken` is a content
+    /// and the cell where it was seen.
     Seeking {
-        label: u32,
+        entry: u64,
         hole: usize,
         cell: usize,
-        taken: Option<(u32, usize)>,
+        taken: Option<(u64, usize)>,
     },
 }
 
@@ -48,7 +53,8 @@ use Activity::{Idle, ReadingOn, Replacing, Seeking, WalkingBack};
 pub enum Answer {
     WentOn,
     Finished,
-    Yes,
+    /// A look-up found its label at this price.
+    Price(u32),
     No,
     Idle,
 }
@@ -83,7 +89,7 @@ impl Phase {
     }
 
     /// Opens a shift on the table.
-    pub fn open(kind: u64, count: u64, table: &[u32]) -> Result<Phase, u8> {
+    pub fn open(kind: u64, count: u64, table: &[u64]) -> Result<Phase, u8> {
         if !is_length(table.len()) {
             return Err(refusal::SIZE);
         }
@@ -112,8 +118,9 @@ impl Phase {
         })
     }
 
-    /// Gives an idle worker a label.
-    pub fn order(&mut self, worker: u64, label: u32) -> Result<(), u8> {
+    /// Gives an idle worker a label. A put-in also has a price; outside put-in
+    /// shifts it isn't read.
+    pub fn order(&mut self, worker: u64, label: u32, price: u32) -> Result<(), u8> {
         if self.is_spoilt() {
             return Err(refusal::SPOILT);
         }
@@ -127,24 +134,29 @@ impl Phase {
         if *activity != Idle {
             return Err(refusal::BUSY);
         }
-        if label == EMPTY {
+        if label == 0 {
             return Err(refusal::BLANK);
         }
+        let mut entry = content(label, 0);
         if self.kind == PUT_IN {
+            if !is_price(price) {
+                return Err(refusal::PRICE);
+            }
             if self.orders_left == 0 {
                 return Err(refusal::FULL);
             }
             self.orders_left -= 1;
+            entry = content(label, price);
         }
         *activity = ReadingOn {
-            label,
+            entry,
             cell: home(label, self.length),
         };
         Ok(())
     }
 
     /// Moves one worker by one turn.
-    pub fn turn(&mut self, table: &mut [u32], worker: u64) -> Result<Answer, u8> {
+    pub fn turn(&mut self, table: &mut [u64], worker: u64) -> Result<Answer, u8> {
         if self.is_spoilt() {
             return Err(refusal::SPOILT);
         }
@@ -209,21 +221,22 @@ impl Phase {
 impl Activity {
     /// Has the activity a number out of bounds, or does the kind lack it?
     fn breaks_bound(&self, kind: u32, length: usize) -> bool {
+        let blank = |entry| label_of(entry) == 0;
         match *self {
             Idle => false,
-            ReadingOn { label, cell } => label == EMPTY || cell >= length,
+            ReadingOn { entry, cell } => blank(entry) || cell >= length,
             Replacing {
-                label, cell, from, ..
-            } => kind == LOOK_UP || label == EMPTY || cell >= length || from >= length,
-            WalkingBack { label, cell } => kind != TAKE_OUT || label == EMPTY || cell >= length,
+                entry, cell, from, ..
+            } => kind == LOOK_UP || blank(entry) || cell >= length || from >= length,
+            WalkingBack { entry, cell } => kind != TAKE_OUT || blank(entry) || cell >= length,
             Seeking {
-                label,
+                entry,
                 hole,
                 cell,
                 taken,
             } => {
                 kind != TAKE_OUT
-                    || label == EMPTY
+                    || blank(entry)
                     || hole >= length
                     || cell >= length
                     || taken.is_some_and(|(_, from)| from >= length)
@@ -236,44 +249,48 @@ fn is_length(n: usize) -> bool {
     (Phase::MIN_CELLS..=Phase::MAX_CELLS).contains(&n)
 }
 
-fn put_in(activity: &mut Activity, table: &mut [u32]) -> Answer {
+fn put_in(activity: &mut Activity, table: &mut [u64]) -> Answer {
     let n = table.len();
     match *activity {
         Idle => return Answer::Idle,
-        ReadingOn { label, cell } => {
-            let content = table[cell];
-            if content > label {
+        ReadingOn { entry, cell } => {
+            let found = table[cell];
+            if label_of(found) > label_of(entry) {
                 *activity = ReadingOn {
-                    label,
+                    entry,
                     cell: next(cell, n),
                 };
-            } else if content == label {
+            } else if label_of(found) == label_of(entry) && price_of(found) <= price_of(entry) {
+                // Its label stands, at no higher price.
                 *activity = Idle;
                 return Answer::Finished;
             } else {
+                // Its label at a higher price, a smaller one, or none.
                 *activity = Replacing {
-                    label,
+                    entry,
                     cell,
-                    found: content,
+                    found,
                     from: cell,
                 };
             }
         }
         Replacing {
-            label, cell, found, ..
+            entry, cell, found, ..
         } => {
             if table[cell] != found {
                 // Failed: the same cell again.
-                *activity = ReadingOn { label, cell };
+                *activity = ReadingOn { entry, cell };
             } else {
-                table[cell] = label;
-                if found == EMPTY {
+                table[cell] = entry;
+                let own_dearer =
+                    label_of(found) == label_of(entry) && price_of(found) > price_of(entry);
+                if label_of(found) == 0 || own_dearer {
                     *activity = Idle;
                     return Answer::Finished;
                 }
-                // Carry the smaller label on.
+                // Carry any other label on, with its price.
                 *activity = ReadingOn {
-                    label: found,
+                    entry: found,
                     cell: next(cell, n),
                 };
             }
@@ -283,21 +300,21 @@ fn put_in(activity: &mut Activity, table: &mut [u32]) -> Answer {
     Answer::WentOn
 }
 
-fn look_up(activity: &mut Activity, table: &[u32]) -> Answer {
+fn look_up(activity: &mut Activity, table: &[u64]) -> Answer {
     match *activity {
         Idle => Answer::Idle,
-        ReadingOn { label, cell } => {
-            let content = table[cell];
-            if content > label {
+        ReadingOn { entry, cell } => {
+            let found = table[cell];
+            if label_of(found) > label_of(entry) {
                 *activity = ReadingOn {
-                    label,
+                    entry,
                     cell: next(cell, table.len()),
                 };
                 return Answer::WentOn;
             }
             *activity = Idle;
-            if content == label {
-                Answer::Yes
+            if label_of(found) == label_of(entry) {
+                Answer::Price(price_of(found))
             } else {
                 Answer::No
             }
@@ -308,64 +325,67 @@ fn look_up(activity: &mut Activity, table: &[u32]) -> Answer {
     }
 }
 
-fn take_out(activity: &mut Activity, table: &mut [u32]) -> Answer {
+fn take_out(activity: &mut Activity, table: &mut [u64]) -> Answer {
     let n = table.len();
     match *activity {
         Idle => return Answer::Idle,
-        ReadingOn { label, cell } => {
-            *activity = if table[cell] > label {
+        ReadingOn { entry, cell } => {
+            *activity = if label_of(table[cell]) > label_of(entry) {
                 ReadingOn {
-                    label,
+                    entry,
                     cell: next(cell, n),
                 }
             } else {
                 // That cell first, and read anew.
-                WalkingBack { label, cell }
+                WalkingBack { entry, cell }
             };
         }
-        WalkingBack { label, cell } => {
-            if table[cell] == label {
+        WalkingBack { entry, cell } => {
+            let content = table[cell];
+            if label_of(content) == label_of(entry) {
+                // From here on its content is known whole.
                 *activity = Seeking {
-                    label,
+                    entry: content,
                     hole: cell,
                     cell: next(cell, n),
                     taken: None,
                 };
-            } else if cell == home(label, n) {
+            } else if cell == home(label_of(entry), n) {
                 *activity = Idle;
                 return Answer::Finished;
             } else {
                 *activity = WalkingBack {
-                    label,
+                    entry,
                     cell: before(cell, n),
                 };
             }
         }
         Seeking {
-            label,
+            entry,
             hole,
             cell,
             taken,
         } => {
             let content = table[cell];
-            let fits = content == EMPTY || way_passes(content, cell, hole, n);
+            let label = label_of(content);
+            let fits = label == 0 || way_passes(label, cell, hole, n);
             let taken = if fits { Some((content, cell)) } else { taken };
             *activity = match taken {
                 None => Seeking {
-                    label,
+                    entry,
                     hole,
                     cell: next(cell, n),
                     taken,
                 },
                 // Back at the cell after the hole: nothing lies between.
                 Some((found, from)) if cell == next(hole, n) => Replacing {
-                    label,
+                    entry,
                     cell: hole,
                     found,
                     from,
                 },
                 Some(_) => Seeking {
-                    label,
+                    entry,
                     hole,
                     cell: before(cell, n),
                     taken,
@@ -373,23 +393,24 @@ fn take_out(activity: &mut Activity, table: &mut [u32]) -> Answer {
             };
         }
         Replacing {
-            label,
+            entry,
             cell,
             found,
             from,
         } => {
-            if table[cell] != label {
+            if table[cell] != entry {
                 // Failed: look at the same cell again.
-                *activity = WalkingBack { label, cell };
+                *activity = WalkingBack { entry, cell };
+            } else if label_of(found) == 0 {
+                // Whatever stood beside no label, the copy is 0.
+                table[cell] = EMPTY;
+                *activity = Idle;
+                return Answer::Finished;
             } else {
                 table[cell] = found;
-                if found == EMPTY {
-                    *activity = Idle;
-                    return Answer::Finished;
-                }
                 // Now take out the copy that was left behind.
                 *activity = WalkingBack {
-                    label: found,
+                    entry: found,
                     cell: from,
                 };
             }

@@ -2,8 +2,9 @@
 
 use std::io::{self, BufRead, Write};
 
+use crate::layout::{label_of, price_of};
 use crate::listing;
-use crate::phase::{Activity, Answer, Phase};
+use crate::phase::{Activity, Answer, Phase, PUT_IN};
 use crate::refusal;
 
 /// The greatest length `cells` takes.
@@ -14,7 +15,8 @@ const MAX_SHEET_CELLS: u32 = 4096;
 enum Line {
     Cells(u32),
     Open(u32, u32),
-    Order(u32, u32),
+    /// Worker, label and price; outside put-in shifts the price is 0.
+    Order(u32, u32, u32),
     Turn(u32),
     Run,
     Close,
@@ -38,43 +40,48 @@ fn fields(line: &[u8]) -> impl Iterator<Item = &[u8]> {
     line.split(|&byte| byte == b'\t')
 }
 
-/// Reads a line (without its newline); None if unreadable.
-fn read_line(line: &[u8]) -> Option<Line> {
+/// Reads a line (without its newline); None if unreadable. An `order` has a
+/// price in a put-in shift and none in others.
+fn read_line(line: &[u8], kind: u32) -> Option<Line> {
     let mut fields = fields(line);
     let word = fields.next()?;
-    let read = match (word, fields.next(), fields.next()) {
-        (b"cells", Some(length), None) => Line::Cells(read_number(length)?),
-        (b"open", Some(kind), Some(count)) => Line::Open(read_number(kind)?, read_number(count)?),
-        (b"order", Some(worker), Some(label)) => {
-            Line::Order(read_number(worker)?, read_number(label)?)
-        }
-        (b"turn", Some(worker), None) => Line::Turn(read_number(worker)?),
-        (b"run", None, None) => Line::Run,
-        (b"close", None, None) => Line::Close,
-        (b"list", None, None) => Line::List,
-        _ => return None,
-    };
-    match fields.next() {
-        None => Some(read),
-        Some(_) => None,
+    let mut numbers = [0; 3];
+    let mut count = 0;
+    for field in fields {
+        *numbers.get_mut(count)? = read_number(field)?;
+        count += 1;
+    }
+    let [first, second, third] = numbers;
+    match (word, count) {
+        (b"cells", 1) => Some(Line::Cells(first)),
+        (b"open", 2) => Some(Line::Open(first, second)),
+        (b"order", 3) if kind == PUT_IN => Some(Line::Order(first, second, third)),
+        (b"order", 2) if kind != PUT_IN => Some(Line::Order(first, second, 0)),
+        (b"turn", 1) => Some(Line::Turn(first)),
+        (b"run", 0) => Some(Line::Run),
+        (b"close", 0) => Some(Line::Close),
+        (b"list", 0) => Some(Line::List),
+        _ => None,
     }
 }
 
 /// What a line answers.
 enum Reply<'a> {
-    Word(&'static str),
+    Ok,
+    Turned(Answer),
     Refused(u8),
-    /// One field per worker.
-    Finishes(&'a [&'static str]),
-    Labels(&'a [u32]),
+    /// One field per worker, None for those idle before.
+    Finishes(&'a [Option<Answer>]),
+    /// Cells, each with a label.
+    Listed(&'a [u64]),
 }
 
 /// The state of a replay.
 struct Replay {
-    table: Vec<u32>,
+    table: Vec<u64>,
     phase: Phase,
-    finishes: Vec<&'static str>,
-    listed: Vec<u32>,
+    finishes: Vec<Option<Answer>>,
+    listed: Vec<u64>,
 }
 
 impl Replay {
@@ -92,24 +99,24 @@ impl Replay {
         if !self.phase.open && fields(line).next() == Some(b"order") {
             return Some(Reply::Refused(refusal::SHUT));
         }
-        let reply = match read_line(line)? {
+        let reply = match read_line(line, self.phase.kind)? {
             Line::Cells(_) | Line::Open(..) if self.phase.open => return None,
-            Line::Cells(length) => self.cells(length).map(|()| Reply::Word("ok")),
-            Line::Open(kind, count) => self.open(kind, count).map(|()| Reply::Word("ok")),
-            Line::Order(worker, label) => self
+            Line::Cells(length) => self.cells(length).map(|()| Reply::Ok),
+            Line::Open(kind, count) => self.open(kind, count).map(|()| Reply::Ok),
+            Line::Order(worker, label, price) => self
                 .phase
-                .order(worker.into(), label)
-                .map(|()| Reply::Word("ok")),
+                .order(worker.into(), label, price)
+                .map(|()| Reply::Ok),
             Line::Turn(worker) => self
                 .phase
                 .turn(&mut self.table, worker.into())
-                .map(|answer| Reply::Word(answer_word(answer))),
+                .map(Reply::Turned),
             Line::Run => self.run().map(|()| Reply::Finishes(&self.finishes)),
-            Line::Close => self.phase.close().map(|()| Reply::Word("ok")),
+            Line::Close => self.phase.close().map(|()| Reply::Ok),
             Line::List => {
                 self.listed.resize(self.table.len(), 0);
                 listing::list(&self.table, &mut self.listed)
-                    .map(|count| Reply::Labels(&self.listed[..count]))
+                    .map(|count| Reply::Listed(&self.listed[..count]))
             }
         };
         Some(reply.unwrap_or_else(Reply::Refused))
@@ -135,7 +142,7 @@ impl Replay {
             return Err(refusal::SHUT);
         }
         self.finishes.clear();
-        self.finishes.resize(self.phase.count, "-");
+        self.finishes.resize(self.phase.count, None);
         while !self.phase.all_idle() {
             for worker in 0..self.phase.count {
                 if self.phase.workers[worker] == Activity::Idle {
@@ -143,7 +150,7 @@ impl Replay {
                 }
                 let answer = self.phase.turn(&mut self.table, worker as u64)?;
                 if answer != Answer::WentOn {
-                    self.finishes[worker] = answer_word(answer);
+                    self.finishes[worker] = Some(answer);
                 }
             }
         }
@@ -151,13 +158,14 @@ impl Replay {
     }
 }
 
-fn answer_word(answer: Answer) -> &'static str {
+/// Writes the answer of a turn as a field.
+fn write_answer(output: &mut impl Write, answer: Answer) -> io::Result<()> {
     match answer {
-        Answer::WentOn => "on",
-        Answer::Finished => "done",
-        Answer::Yes => "yes",
-        Answer::No => "no",
-        Answer::Idle => "idle",
+        Answer::WentOn => output.write_all(b"\ton"),
+        Answer::Finished => output.write_all(b"\tdone"),
+        Answer::Price(price) => write!(output, "\t{price}"),
+        Answer::No => output.write_all(b"\tno"),
+        Answer::Idle => output.write_all(b"\tidle"),
     }
 }
 
@@ -177,17 +185,21 @@ pub fn replay(mut input: impl BufRead, mut output: impl Write) -> io::Result<()>
             break;
         };
         match reply {
-            Reply::Word(word) => write!(output, "\t{word}")?,
+            Reply::Ok => output.write_all(b"\tok")?,
+            Reply::Turned(answer) => write_answer(&mut output, answer)?,
             Reply::Refused(refusal) => write!(output, "\trefused\t{refusal}")?,
             Reply::Finishes(finishes) => {
                 for finish in finishes {
-                    write!(output, "\t{finish}")?;
+                    match *finish {
+                        None => output.write_all(b"\t-")?,
+                        Some(answer) => write_answer(&mut output, answer)?,
+                    }
                 }
             }
-            Reply::Labels(labels) => {
-                write!(output, "\t{}", labels.len())?;
-                for label in labels {
-                    write!(output, "\t{label}")?;
+            Reply::Listed(cells) => {
+                write!(output, "\t{}", cells.len())?;
+                for &cell in cells {
+                    write!(output, "\t{}\t{}", label_of(cell), price_of(cell))?;
                 }
             }
         }

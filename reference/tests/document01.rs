@@ -1,21 +1,30 @@
-//! The sheet and the tables of document 01.
+//! The sheet and the tables of document 01, with price 1 beside every label.
 
-use std::collections::BTreeSet;
-
-use reference::layout::{is_sound, layout};
+use reference::layout::{content, is_sound, layout, Prices};
 use reference::listing::{check, count, list, list_front, taken_word};
 use reference::phase::{Activity, Answer, Phase, LOOK_UP, PUT_IN, TAKE_OUT};
 use reference::sheet::replay_bytes;
 
-fn set(labels: &[u32]) -> BTreeSet<u32> {
-    labels.iter().copied().collect()
+fn set(labels: &[u32]) -> Prices {
+    labels.iter().map(|&label| (label, 1)).collect()
+}
+
+fn cell(label: u32) -> u64 {
+    match label {
+        0 => 0,
+        _ => content(label, 1),
+    }
+}
+
+fn cells<const N: usize>(labels: [u32; N]) -> [u64; N] {
+    labels.map(cell)
 }
 
 /// Opens a shift, gives each order to its worker, runs it and closes.
-fn shift(kind: u32, table: &mut [u32], orders: &[u32]) -> Vec<Answer> {
+fn shift(kind: u32, table: &mut [u64], orders: &[u32]) -> Vec<Answer> {
     let mut phase = Phase::open(kind.into(), orders.len() as u64, table).unwrap();
     for (worker, &label) in orders.iter().enumerate() {
-        phase.order(worker as u64, label).unwrap();
+        phase.order(worker as u64, label, 1).unwrap();
     }
     let mut answers = vec![Answer::Idle; orders.len()];
     while !phase.all_idle() {
@@ -41,11 +50,11 @@ fn replay(sheet: &str) -> String {
 const SHEET: &str = "\
 cells 5
 open 1 2
-order 0 3
-order 1 8
+order 0 3 1
+order 1 8 1
 run
-order 0 13
-order 1 4
+order 0 13 1
+order 1 4 1
 run
 close
 list
@@ -61,7 +70,7 @@ const PRINTED: &str = "\
 7 ok
 8 done done
 9 ok
-10 4 4 3 13 8
+10 4 4 1 3 1 13 1 8 1
 ";
 
 #[test]
@@ -74,7 +83,7 @@ fn the_sheet() {
 #[test]
 fn five_cells() {
     let table = layout(5, &set(&[3, 4, 8, 13]));
-    assert_eq!(table, [4, 3, 0, 13, 8]);
+    assert_eq!(table, cells([4, 3, 0, 13, 8]));
     assert!(is_sound(&table));
     assert_eq!(taken_word(&table, 0), 27);
     assert_eq!(taken_word(&table, 1), 0);
@@ -82,38 +91,41 @@ fn five_cells() {
 
 #[test]
 fn without_8() {
-    let mut table = [4, 3, 0, 13, 8];
+    let mut table = cells([4, 3, 0, 13, 8]);
     assert_eq!(shift(TAKE_OUT, &mut table, &[8]), [Answer::Finished]);
-    assert_eq!(table, [3, 0, 0, 13, 4]);
+    assert_eq!(table, cells([3, 0, 0, 13, 4]));
     assert_eq!(layout(5, &set(&[3, 4, 13])), table);
 }
 
 #[test]
 fn thirteen_by_two_workers() {
-    let mut table = [4, 3, 0, 13, 8];
+    let mut table = cells([4, 3, 0, 13, 8]);
     shift(TAKE_OUT, &mut table, &[13, 13]);
-    assert_eq!(table, [3, 0, 0, 8, 4]);
+    assert_eq!(table, cells([3, 0, 0, 8, 4]));
 }
 
 #[test]
 fn eight_by_two_workers() {
     let mut table = [0; 5];
     shift(PUT_IN, &mut table, &[8, 8]);
-    assert_eq!(table, [0, 0, 0, 8, 0]);
+    assert_eq!(table, cells([0, 0, 0, 8, 0]));
 }
 
 #[test]
 fn two_cells() {
     let table = layout(2, &set(&[7]));
-    assert_eq!(table, [0, 7]);
+    assert_eq!(table, cells([0, 7]));
     let mut phase = Phase::open(1, 1, &table).unwrap();
-    assert_eq!(phase.order(0, 7), Err(9));
-    assert_eq!(phase.order(0, 1), Err(9));
+    assert_eq!(phase.order(0, 7, 1), Err(9));
+    assert_eq!(phase.order(0, 1, 1), Err(9));
 }
 
 #[test]
 fn greatest_label() {
-    assert_eq!(layout(5, &set(&[4294967295])), [4294967295, 0, 0, 0, 0]);
+    assert_eq!(
+        layout(5, &set(&[4294967295])),
+        cells([4294967295, 0, 0, 0, 0])
+    );
 }
 
 #[test]
@@ -124,6 +136,7 @@ fn unsound_tables() {
         [6, 0, 0, 0, 0],
         [5, 6, 7, 8, 9],
     ] {
+        let table = cells(table);
         assert!(!is_sound(&table));
         assert_eq!(check(&table), Err(4));
         assert_eq!(count(&table), Err(4));
@@ -178,22 +191,22 @@ fn kinds() {
 
 #[test]
 fn openings_refuse_in_order() {
-    assert_eq!(Phase::open(0, 0, &[1]), Err(1));
-    assert_eq!(Phase::open(0, 0, &[1, 1]), Err(2));
-    assert_eq!(Phase::open(0, 1, &[1, 1]), Err(3));
-    assert_eq!(Phase::open(1, 1, &[1, 1]), Err(4));
+    assert_eq!(Phase::open(0, 0, &cells([1])), Err(1));
+    assert_eq!(Phase::open(0, 0, &cells([1, 1])), Err(2));
+    assert_eq!(Phase::open(0, 1, &cells([1, 1])), Err(3));
+    assert_eq!(Phase::open(1, 1, &cells([1, 1])), Err(4));
 }
 
 #[test]
 fn a_shift_without_orders_keeps_its_table() {
     for kind in 1..=3 {
-        let mut table = [4, 3, 0, 13, 8];
+        let mut table = cells([4, 3, 0, 13, 8]);
         let mut phase = Phase::open(kind, 16, &table).unwrap();
         for worker in 0..16 {
             assert_eq!(phase.turn(&mut table, worker), Ok(Answer::Idle));
         }
         assert_eq!(phase.close(), Ok(()));
-        assert_eq!(table, [4, 3, 0, 13, 8]);
+        assert_eq!(table, cells([4, 3, 0, 13, 8]));
         assert_eq!(phase.close(), Err(11));
     }
     assert_eq!(
@@ -204,36 +217,39 @@ fn a_shift_without_orders_keeps_its_table() {
 
 #[test]
 fn look_up_answers() {
-    let mut table = [4, 3, 0, 13, 8];
+    let mut table = cells([4, 3, 0, 13, 8]);
     let answers = shift(LOOK_UP, &mut table, &[3, 4, 8, 13, 1, 2, 18, 4294967295]);
-    use Answer::{No, Yes};
-    assert_eq!(answers, [Yes, Yes, Yes, Yes, No, No, No, No]);
-    assert_eq!(table, [4, 3, 0, 13, 8]);
+    use Answer::{No, Price};
+    assert_eq!(
+        answers,
+        [Price(1), Price(1), Price(1), Price(1), No, No, No, No]
+    );
+    assert_eq!(table, cells([4, 3, 0, 13, 8]));
 }
 
 #[test]
 fn order_refuses_in_order() {
     let mut phase = Phase::open(1, 2, &[0, 0, 0]).unwrap();
     assert_eq!(phase.orders_left, 2);
-    assert_eq!(phase.order(2, 0), Err(6));
-    assert_eq!(phase.order(1 << 32, 1), Err(6));
-    assert_eq!(phase.order(0, 0), Err(7));
-    assert_eq!(phase.order(0, 5), Ok(()));
-    assert_eq!(phase.order(0, 0), Err(8));
-    assert_eq!(phase.order(1, 5), Ok(()));
-    assert_eq!(phase.order(1, 5), Err(8));
+    assert_eq!(phase.order(2, 0, 1), Err(6));
+    assert_eq!(phase.order(1 << 32, 1, 1), Err(6));
+    assert_eq!(phase.order(0, 0, 1), Err(7));
+    assert_eq!(phase.order(0, 5, 1), Ok(()));
+    assert_eq!(phase.order(0, 0, 1), Err(8));
+    assert_eq!(phase.order(1, 5, 1), Ok(()));
+    assert_eq!(phase.order(1, 5, 1), Err(8));
     assert_eq!(phase.close(), Err(10));
     let mut table = [0, 0, 0];
     while !phase.all_idle() {
         phase.turn(&mut table, 0).unwrap();
         phase.turn(&mut table, 1).unwrap();
     }
-    assert_eq!(phase.order(1, 0), Err(7));
-    assert_eq!(phase.order(1, 5), Err(9));
+    assert_eq!(phase.order(1, 0, 1), Err(7));
+    assert_eq!(phase.order(1, 5, 1), Err(9));
     assert_eq!(phase.close(), Ok(()));
-    assert_eq!(phase.order(2, 0), Err(11));
+    assert_eq!(phase.order(2, 0, 1), Err(11));
     phase.length = 1;
-    assert_eq!(phase.order(2, 0), Err(13));
+    assert_eq!(phase.order(2, 0, 1), Err(13));
 }
 
 #[test]
@@ -275,17 +291,18 @@ fn spoilt_records() {
         })
     };
     let activities = |label: u32, cell: usize| {
+        let entry = content(label, 1);
         [
-            Activity::ReadingOn { label, cell },
+            Activity::ReadingOn { entry, cell },
             Activity::Replacing {
-                label,
+                entry,
                 cell,
                 found: 0,
                 from: 0,
             },
-            Activity::WalkingBack { label, cell },
+            Activity::WalkingBack { entry, cell },
             Activity::Seeking {
-                label,
+                entry,
                 hole: 0,
                 cell,
                 taken: None,
@@ -308,13 +325,13 @@ fn spoilt_records() {
         }
     }
     let replacing = |from| Activity::Replacing {
-        label: 1,
+        entry: cell(1),
         cell: 0,
         found: 0,
         from,
     };
     let seeking = |hole, from| Activity::Seeking {
-        label: 1,
+        entry: cell(1),
         hole,
         cell: 0,
         taken: Some((0, from)),
@@ -328,7 +345,7 @@ fn spoilt_records() {
 
 #[test]
 fn listing() {
-    let table = [4, 3, 0, 13, 8];
+    let table = cells([4, 3, 0, 13, 8]);
     assert_eq!(check(&table), Ok(()));
     assert_eq!(count(&table), Ok(4));
     let mut short = [77; 3];
@@ -337,15 +354,16 @@ fn listing() {
     assert_eq!(short, [77; 3]);
     let mut lent = [77; 6];
     assert_eq!(list(&table, &mut lent), Ok(4));
-    assert_eq!(lent, [4, 3, 13, 8, 77, 77]);
+    let listed = [cell(4), cell(3), cell(13), cell(8), 77, 77];
+    assert_eq!(lent, listed);
     let mut lent = [77; 6];
-    assert_eq!(list_front(&table, &mut lent), [4, 3, 13, 8]);
-    assert_eq!(lent, [4, 3, 13, 8, 77, 77]);
+    assert_eq!(list_front(&table, &mut lent), cells([4, 3, 13, 8]));
+    assert_eq!(lent, listed);
 }
 
 #[test]
 fn taken_words_place_the_groups() {
-    let labels: BTreeSet<u32> = (1..150).map(|i| i * i * 7 + 5).collect();
+    let labels: Prices = (1..150).map(|i| (i * i * 7 + 5, 1)).collect();
     let table = layout(200, &labels);
     let words: Vec<u64> = (0..4).map(|group| taken_word(&table, group)).collect();
     assert_eq!(words[3] >> 8, 0);
@@ -372,11 +390,11 @@ fn taken_words_place_the_groups() {
 fn turns_on_the_sheet() {
     assert_eq!(
         replay(
-            "cells 5\nopen 1 2\norder 0 3\norder 1 8\nturn 0\nturn 1\nturn 1\nturn 0\nturn 0\n\
+            "cells 5\nopen 1 2\norder 0 3 1\norder 1 8 1\nturn 0\nturn 1\nturn 1\nturn 0\nturn 0\n\
              turn 0\nturn 0\nturn 0\nturn 0\nclose\nlist\n"
         ),
         "1 ok\n2 ok\n3 ok\n4 ok\n5 on\n6 on\n7 done\n8 on\n9 on\n\
-         10 on\n11 done\n12 idle\n13 idle\n14 ok\n15 2 8 3\n"
+         10 on\n11 done\n12 idle\n13 idle\n14 ok\n15 2 8 1 3 1\n"
     );
 }
 
@@ -384,16 +402,29 @@ fn turns_on_the_sheet() {
 #[test]
 fn a_take_out_by_hand() {
     use Activity::*;
-    let mut table = [4, 3, 0, 13, 8];
+    let mut table = cells([4, 3, 0, 13, 8]);
     let mut phase = Phase::open(2, 1, &table).unwrap();
-    phase.order(0, 8).unwrap();
+    phase.order(0, 8, 1).unwrap();
+    let ordered = content(8, 0);
     let steps = [
         // Home 3 holds 13; cell 4 holds 8.
-        (ReadingOn { label: 8, cell: 4 }, [4, 3, 0, 13, 8]),
-        (WalkingBack { label: 8, cell: 4 }, [4, 3, 0, 13, 8]),
+        (
+            ReadingOn {
+                entry: ordered,
+                cell: 4,
+            },
+            [4, 3, 0, 13, 8],
+        ),
+        (
+            WalkingBack {
+                entry: ordered,
+                cell: 4,
+            },
+            [4, 3, 0, 13, 8],
+        ),
         (
             Seeking {
-                label: 8,
+                entry: cell(8),
                 hole: 4,
                 cell: 0,
                 taken: None,
@@ -403,17 +434,23 @@ fn a_take_out_by_hand() {
         // The way of 4 in cell 0 is cell 4.
         (
             Replacing {
-                label: 8,
+                entry: cell(8),
                 cell: 4,
-                found: 4,
+                found: cell(4),
                 from: 0,
             },
             [4, 3, 0, 13, 8],
         ),
-        (WalkingBack { label: 4, cell: 0 }, [4, 3, 0, 13, 4]),
+        (
+            WalkingBack {
+                entry: cell(4),
+                cell: 0,
+            },
+            [4, 3, 0, 13, 4],
+        ),
         (
             Seeking {
-                label: 4,
+                entry: cell(4),
                 hole: 0,
                 cell: 1,
                 taken: None,
@@ -422,17 +459,23 @@ fn a_take_out_by_hand() {
         ),
         (
             Replacing {
-                label: 4,
+                entry: cell(4),
                 cell: 0,
-                found: 3,
+                found: cell(3),
                 from: 1,
             },
             [4, 3, 0, 13, 4],
         ),
-        (WalkingBack { label: 3, cell: 1 }, [3, 3, 0, 13, 4]),
+        (
+            WalkingBack {
+                entry: cell(3),
+                cell: 1,
+            },
+            [3, 3, 0, 13, 4],
+        ),
         (
             Seeking {
-                label: 3,
+                entry: cell(3),
                 hole: 1,
                 cell: 2,
                 taken: None,
@@ -441,7 +484,7 @@ fn a_take_out_by_hand() {
         ),
         (
             Replacing {
-                label: 3,
+                entry: cell(3),
                 cell: 1,
                 found: 0,
                 from: 2,
@@ -449,33 +492,33 @@ fn a_take_out_by_hand() {
             [3, 3, 0, 13, 4],
         ),
     ];
-    for (activity, cells) in steps {
+    for (activity, left) in steps {
         assert_eq!(phase.turn(&mut table, 0), Ok(Answer::WentOn));
         assert_eq!(phase.workers[0], activity);
-        assert_eq!(table, cells);
+        assert_eq!(table, cells(left));
     }
     assert_eq!(phase.turn(&mut table, 0), Ok(Answer::Finished));
-    assert_eq!(table, [3, 0, 0, 13, 4]);
+    assert_eq!(table, cells([3, 0, 0, 13, 4]));
 }
 
 /// Worker 0 has seen 5 in cell 2 as what replaces 20, then others work.
-fn seeking_back() -> (Phase, [u32; 5]) {
-    let mut table = [20, 16, 5, 0, 0];
+fn seeking_back() -> (Phase, [u64; 5]) {
+    let mut table = cells([20, 16, 5, 0, 0]);
     let mut phase = Phase::open(2, 3, &table).unwrap();
-    phase.order(0, 20).unwrap();
+    phase.order(0, 20, 1).unwrap();
     for _ in 0..4 {
         phase.turn(&mut table, 0).unwrap();
     }
     let seeking = Activity::Seeking {
-        label: 20,
+        entry: cell(20),
         hole: 0,
         cell: 1,
-        taken: Some((5, 2)),
+        taken: Some((cell(5), 2)),
     };
     assert_eq!(phase.workers[0], seeking);
-    phase.order(1, 16).unwrap();
+    phase.order(1, 16, 1).unwrap();
     while phase.turn(&mut table, 1).unwrap() == Answer::WentOn {}
-    assert_eq!(table, [20, 5, 0, 0, 0]);
+    assert_eq!(table, cells([20, 5, 0, 0, 0]));
     (phase, table)
 }
 
@@ -484,22 +527,22 @@ fn a_nearer_label_is_taken() {
     let (mut phase, mut table) = seeking_back();
     phase.turn(&mut table, 0).unwrap();
     let replacing = Activity::Replacing {
-        label: 20,
+        entry: cell(20),
         cell: 0,
-        found: 5,
+        found: cell(5),
         from: 1,
     };
     assert_eq!(phase.workers[0], replacing);
     while phase.turn(&mut table, 0).unwrap() == Answer::WentOn {}
-    assert_eq!(table, [5, 0, 0, 0, 0]);
+    assert_eq!(table, cells([5, 0, 0, 0, 0]));
 }
 
 #[test]
 fn a_nearer_empty_cell_is_taken() {
     let (mut phase, mut table) = seeking_back();
-    phase.order(2, 5).unwrap();
+    phase.order(2, 5, 1).unwrap();
     while phase.turn(&mut table, 2).unwrap() == Answer::WentOn {}
-    assert_eq!(table, [20, 0, 0, 0, 0]);
+    assert_eq!(table, cells([20, 0, 0, 0, 0]));
     assert_eq!(phase.turn(&mut table, 0), Ok(Answer::WentOn));
     assert_eq!(phase.turn(&mut table, 0), Ok(Answer::Finished));
     assert_eq!(table, [0; 5]);
@@ -521,9 +564,10 @@ fn sheet_limits() {
 
 #[test]
 fn a_shut_shift_on_the_sheet() {
-    let shut = "run\norder 0 1\norder\norder \norder x y z\norder 0 01\nturn 0\nclose\n";
+    let shut =
+        "run\norder 0 1 1\norder 0 1\norder\norder \norder x y z\norder 0 01 1\nturn 0\nclose\n";
     let answers = |first: usize| {
-        (first..first + 8)
+        (first..first + 9)
             .map(|line| format!("{line} refused 11\n"))
             .collect::<String>()
     };
@@ -595,10 +639,10 @@ fn bad_lines() {
         "open",
         "order",
         "order\t0",
-        "order\t0\t01",
-        "order\t0\t1\t",
-        "order\t0\t4294967296",
-        "order\t0\t1\r",
+        "order\t0\t01\t1",
+        "order\t0\t1\t1\t",
+        "order\t0\t4294967296\t1",
+        "order\t0\t1\t1\r",
     ] {
         let sheet = format!("cells\t5\nopen\t1\t1\n{line}\nlist\n");
         assert_eq!(
@@ -623,10 +667,10 @@ fn ends_of_input() {
 fn run_fields() {
     assert_eq!(
         replay(
-            "cells 5\nopen 1 3\nrun\norder 1 4294967295\nrun\nclose\nopen 3 3\norder 0 5\n\
+            "cells 5\nopen 1 3\nrun\norder 1 4294967295 1\nrun\nclose\nopen 3 3\norder 0 5\n\
              order 2 4294967295\nrun\nrun\n"
         ),
-        "1 ok\n2 ok\n3 - - -\n4 ok\n5 - done -\n6 ok\n7 ok\n8 ok\n9 ok\n10 no - yes\n11 - - -\n"
+        "1 ok\n2 ok\n3 - - -\n4 ok\n5 - done -\n6 ok\n7 ok\n8 ok\n9 ok\n10 no - 1\n11 - - -\n"
     );
 }
 
@@ -635,10 +679,10 @@ fn run_fields() {
 fn list_in_an_open_shift() {
     assert_eq!(
         replay(
-            "cells 5\nopen 1 2\norder 0 3\norder 1 8\nrun\nclose\nopen 2 1\norder 0 8\n\
+            "cells 5\nopen 1 2\norder 0 3 1\norder 1 8 1\nrun\nclose\nopen 2 1\norder 0 8\n\
              turn 0\nturn 0\nturn 0\nlist\nturn 0\nlist\nrun\nlist\n"
         ),
         "1 ok\n2 ok\n3 ok\n4 ok\n5 done done\n6 ok\n7 ok\n8 ok\n\
-         9 on\n10 on\n11 on\n12 2 8 3\n13 on\n14 refused 4\n15 done\n16 1 3\n"
+         9 on\n10 on\n11 on\n12 2 8 1 3 1\n13 on\n14 refused 4\n15 done\n16 1 3 1\n"
     );
 }

@@ -1,9 +1,9 @@
 //! What the generated sheets reach, and what their replays must show.
 
-use std::collections::{BTreeMap, BTreeSet};
+use std::collections::BTreeMap;
 
 use reference::generate::{sheet, styled, undamaged, Style};
-use reference::layout::layout;
+use reference::layout::{label_of, layout, price_of, Prices};
 use reference::sheet::replay_bytes;
 
 fn lines(text: &[u8]) -> Vec<&[u8]> {
@@ -19,33 +19,35 @@ fn fields(line: &[u8]) -> Vec<String> {
         .collect()
 }
 
-/// Follows a replay from outside: line numbers, shares of answers, and every
-/// list after a close against the layout. Returns the accepted closes.
+/// Follows a replay from outside: line numbers, shares of answers, every
+/// look-up's answer, and every list after a close against the layout. Returns
+/// the accepted closes.
 fn follow(text: &[u8], words: &mut BTreeMap<String, usize>) -> usize {
     let output = replay_bytes(text);
     assert!(output.is_empty() || output.ends_with(b"\n"));
     let (sheet, answers) = (lines(text), lines(&output));
     assert!(answers.len() <= sheet.len());
     let (mut n, mut kind, mut open) = (0, 0, false);
-    let mut set = BTreeSet::new();
-    let mut ordered = BTreeSet::new();
+    let mut set = Prices::new();
+    let mut ordered: Vec<(u32, u32)> = Vec::new();
+    // The label that each worker looks up.
+    let mut sought = BTreeMap::new();
     let mut closes = 0;
     for (i, answer) in answers.iter().enumerate() {
         let answer = fields(answer);
         assert_eq!(answer[0], (i + 1).to_string());
         let line = fields(sheet[i]);
-        let word = if answer[1] == "refused" {
-            answer[1..].join(" ")
-        } else {
-            answer[1].to_string()
+        let word = match answer[1].as_str() {
+            "refused" => answer[1..].join(" "),
+            other if other.parse::<u32>().is_ok() => format!("{} number", line[0]),
+            other => other.to_string(),
         };
-        if answer[1].parse::<u32>().is_err() {
-            *words.entry(word).or_default() += 1;
-        }
+        *words.entry(word).or_default() += 1;
         if answer[1] == "bad" {
             assert_eq!(i + 1, answers.len());
             return closes;
         }
+        let found = |label: u32| set.get(&label).map_or("no".to_string(), u32::to_string);
         match (line[0].as_str(), answer[1].as_str()) {
             ("cells", "ok") => {
                 n = line[1].parse().unwrap();
@@ -57,25 +59,49 @@ fn follow(text: &[u8], words: &mut BTreeMap<String, usize>) -> usize {
                 ordered.clear();
             }
             ("order", "ok") => {
-                ordered.insert(line[2].parse::<u32>().unwrap());
+                let label = line[2].parse().unwrap();
+                let price = if kind == 1 {
+                    line[3].parse().unwrap()
+                } else {
+                    assert_eq!(line.len(), 3);
+                    0
+                };
+                ordered.push((label, price));
+                if kind == 3 {
+                    sought.insert(line[1].clone(), label);
+                }
+            }
+            ("turn", "on" | "done" | "idle" | "refused") => {}
+            ("turn", answer) => {
+                let label = sought.remove(&line[1]).expect("a label looked up");
+                assert_eq!(answer, found(label));
+            }
+            ("run", first) if kind == 3 && first != "refused" => {
+                for (worker, answer) in answer[1..].iter().enumerate() {
+                    let label = sought.remove(&worker.to_string());
+                    assert_eq!(*answer, label.map_or("-".to_string(), found));
+                }
             }
             ("close", "ok") => {
                 open = false;
                 closes += 1;
-                match kind {
-                    1 => set.extend(&ordered),
-                    2 => set.retain(|label| !ordered.contains(label)),
-                    _ => {}
+                for &(label, price) in &ordered {
+                    if kind == 1 {
+                        let least = set.entry(label).or_insert(price);
+                        *least = price.min(*least);
+                    } else if kind == 2 {
+                        set.remove(&label);
+                    }
                 }
             }
             ("list", count) if !open && n > 0 => {
                 let listed: Vec<u32> = answer[2..].iter().map(|l| l.parse().unwrap()).collect();
-                assert_eq!(count, listed.len().to_string());
-                let table = layout(n, &set);
-                assert_eq!(
-                    listed,
-                    table.into_iter().filter(|&l| l > 0).collect::<Vec<_>>()
-                );
+                assert_eq!(count, (listed.len() / 2).to_string());
+                let table = layout(n, &set).into_iter().filter(|&cell| cell != 0);
+                let expected: Vec<u32> = table
+                    .flat_map(|cell| [label_of(cell), price_of(cell)])
+                    .collect();
+                assert_eq!(listed, expected);
             }
             _ => {}
         }
@@ -99,11 +125,21 @@ fn sheets_reach_everything() {
         several += usize::from(follow(&text, &mut words) >= 3);
     }
     println!("{sheets} sheets, {bytes} bytes, {several} with 3 closes or more: {words:?}");
-    for word in ["ok", "on", "done", "yes", "no", "idle", "-", "bad"] {
+    for word in [
+        "ok",
+        "on",
+        "done",
+        "turn number",
+        "run number",
+        "no",
+        "idle",
+        "-",
+        "bad",
+    ] {
         assert!(words.get(word).is_some_and(|&n| n > 100), "{word}");
     }
     // 5, 12 and 13 can't come from a sheet; 4 only by a list.
-    for number in [1, 2, 3, 4, 6, 7, 8, 9, 10, 11] {
+    for number in [1, 2, 3, 4, 6, 7, 8, 9, 10, 11, 14] {
         let word = format!("refused {number}");
         assert!(words.get(&word).is_some_and(|&n| n > 30), "{word}");
     }

@@ -1,24 +1,26 @@
 //! What holds after every turn and every close.
 
-use std::collections::{BTreeSet, HashMap};
+use std::collections::HashMap;
 
-use reference::generate::Rng;
-use reference::layout::{is_sound, layout, way_is_greater};
+use reference::generate::{price, Rng};
+use reference::layout::{
+    content, is_sound, label_of, layout, least_prices, way_is_greater, Prices,
+};
 use reference::phase::{Activity, Answer, Phase, LOOK_UP, PUT_IN, TAKE_OUT};
 
-fn labels(table: &[u32]) -> BTreeSet<u32> {
-    table.iter().copied().filter(|&cell| cell != 0).collect()
+fn prices(table: &[u64]) -> Prices {
+    least_prices(table.iter().copied())
 }
 
-/// The labels the workers carry.
-fn carried(phase: &Phase) -> impl Iterator<Item = u32> + '_ {
-    phase.crew().iter().filter_map(|activity| match *activity {
+/// The content that a worker carries.
+fn entry(activity: Activity) -> Option<u64> {
+    match activity {
         Activity::Idle => None,
-        Activity::ReadingOn { label, .. }
-        | Activity::Replacing { label, .. }
-        | Activity::WalkingBack { label, .. }
-        | Activity::Seeking { label, .. } => Some(label),
-    })
+        Activity::ReadingOn { entry, .. }
+        | Activity::Replacing { entry, .. }
+        | Activity::WalkingBack { entry, .. }
+        | Activity::Seeking { entry, .. } => Some(entry),
+    }
 }
 
 /// The cell a worker's next turn touches.
@@ -32,23 +34,28 @@ fn touched(activity: Activity) -> Option<usize> {
     }
 }
 
-/// The labels a shift should end with.
-fn expected(kind: u32, opening: &BTreeSet<u32>, ordered: &[u32]) -> BTreeSet<u32> {
-    let ordered = ordered.iter().copied().collect();
-    match kind {
-        PUT_IN => opening | &ordered,
-        TAKE_OUT => opening - &ordered,
-        _ => opening.clone(),
+/// The labels and prices a shift should end with. Of an order outside put-in
+/// shifts the price doesn't count.
+fn expected(kind: u32, opening: &Prices, ordered: &[(u32, u32)]) -> Prices {
+    let mut prices = opening.clone();
+    for &(label, price) in ordered {
+        if kind == PUT_IN {
+            let least = prices.entry(label).or_insert(price);
+            *least = price.min(*least);
+        } else if kind == TAKE_OUT {
+            prices.remove(&label);
+        }
     }
+    prices
 }
 
 /// A turn, with what holds of every turn.
 fn checked_turn(
     phase: &mut Phase,
-    table: &mut [u32],
+    table: &mut [u64],
     worker: usize,
-    opening: &BTreeSet<u32>,
-    ordered: &[u32],
+    opening: &Prices,
+    ordered: &[(u32, u32)],
 ) -> Answer {
     let old_phase = phase.clone();
     let old_table = table.to_vec();
@@ -71,32 +78,38 @@ fn checked_turn(
     match phase.kind {
         PUT_IN => {
             let greater =
-                |(at, &label): (usize, &u32)| label == 0 || way_is_greater(table, label, at);
+                |(at, &cell): (usize, &u64)| cell == 0 || way_is_greater(table, label_of(cell), at);
             assert!(table.iter().enumerate().all(greater), "{table:?}");
             assert!(is_sound(table));
-            let mut all = labels(table);
-            all.extend(carried(phase));
+            // The table's and the carried labels, and the least prices there.
+            let carried = phase.crew().iter().filter_map(|&activity| entry(activity));
+            let all = least_prices(table.iter().copied().chain(carried));
             assert_eq!(all, expected(PUT_IN, opening, ordered));
+            // A label's price never rises.
+            let now = prices(table);
+            for (label, price) in prices(&old_table) {
+                assert!(now.get(&label).is_none_or(|&now| now <= price));
+            }
         }
-        // Of the labels to stay, none is ever missing.
-        TAKE_OUT => assert!(labels(table).is_superset(&expected(TAKE_OUT, opening, ordered))),
+        // Of the labels to stay, none is ever missing, and no price changes.
+        TAKE_OUT => {
+            let now = prices(table);
+            assert!(now.iter().all(|(label, price)| opening[label] == *price));
+            let stay = expected(TAKE_OUT, opening, ordered);
+            assert!(stay.keys().all(|label| now.contains_key(label)));
+        }
         _ => {
             assert_eq!(table, old_table);
+            let label = entry(old_phase.workers[worker]).map(label_of);
             match answer {
-                Answer::Yes | Answer::No => {
-                    let label = carried(&old_phase).collect::<Vec<_>>();
-                    let busy = old_phase.crew()[..worker]
-                        .iter()
-                        .filter(|&&activity| activity != Activity::Idle)
-                        .count();
-                    assert_eq!(answer == Answer::Yes, opening.contains(&label[busy]));
-                }
+                Answer::Price(price) => assert_eq!(opening.get(&label.unwrap()), Some(&price)),
+                Answer::No => assert!(!opening.contains_key(&label.unwrap())),
                 other => assert_ne!(other, Answer::Finished),
             }
         }
     }
     if phase.kind != LOOK_UP {
-        assert!(answer != Answer::Yes && answer != Answer::No);
+        assert!(!matches!(answer, Answer::Price(_) | Answer::No));
     }
     answer
 }
@@ -120,7 +133,7 @@ fn random_shifts() {
         for _ in 0..8 {
             let kind = rng.pick(&[1, 1, 1, 2, 2, 3]);
             let count = rng.pick(&[1, 2, 2, 3, 4, 5, 16]);
-            let opening = labels(&table);
+            let opening = prices(&table);
             let mut phase = Phase::open(kind, count as u64, &table).unwrap();
             let mut wanted = rng.below(2 * count + n);
             let mut ordered = Vec::new();
@@ -129,10 +142,10 @@ fn random_shifts() {
                 let worker = rng.below(count);
                 if wanted > 0 && phase.workers[worker] == Activity::Idle {
                     wanted -= 1;
-                    let label = label(rng);
+                    let (label, price) = (label(rng), price(rng));
                     let room = n - opening.len() - 1;
-                    match phase.order(worker as u64, label) {
-                        Ok(()) => ordered.push(label),
+                    match phase.order(worker as u64, label, price) {
+                        Ok(()) => ordered.push((label, price)),
                         Err(refusal) => {
                             assert_eq!(refusal, 9);
                             assert_eq!(ordered.len(), room);
@@ -161,16 +174,16 @@ fn random_shifts() {
 /// All interleavings of one shift.
 struct Walk {
     n: usize,
-    opening: BTreeSet<u32>,
-    orders: Vec<u32>,
+    opening: Prices,
+    orders: Vec<(u32, u32)>,
     /// States seen: true if wholly explored, false while on the path.
-    seen: HashMap<(Vec<u32>, Vec<Activity>, usize), bool>,
+    seen: HashMap<(Vec<u64>, Vec<Activity>, usize), bool>,
     ends: usize,
 }
 
 impl Walk {
     /// Explores from a state where the first `given` orders are given.
-    fn explore(&mut self, phase: &Phase, table: &[u32], given: usize) {
+    fn explore(&mut self, phase: &Phase, table: &[u64], given: usize) {
         let key = (table.to_vec(), phase.crew().to_vec(), given);
         match self.seen.get(&key) {
             Some(true) => return,
@@ -181,7 +194,8 @@ impl Walk {
             let mut phase = phase.clone();
             if phase.workers[worker] == Activity::Idle {
                 if given < self.orders.len() {
-                    phase.order(worker as u64, self.orders[given]).unwrap();
+                    let (label, price) = self.orders[given];
+                    phase.order(worker as u64, label, price).unwrap();
                     self.explore(&phase, table, given + 1);
                 }
             } else {
@@ -201,15 +215,15 @@ impl Walk {
     }
 }
 
-fn explore(kind: u32, count: usize, n: usize, opening: BTreeSet<u32>, orders: &[u32]) {
-    let table = layout(n, &opening);
+fn explore(kind: u32, count: usize, n: usize, opening: &Prices, orders: &[(u32, u32)]) {
+    let table = layout(n, opening);
     let phase = Phase::open(kind.into(), count as u64, &table).unwrap();
     if kind == PUT_IN && phase.orders_left < orders.len() {
         return;
     }
     let mut walk = Walk {
         n,
-        opening,
+        opening: opening.clone(),
         orders: orders.to_vec(),
         seen: HashMap::new(),
         ends: 0,
@@ -218,50 +232,39 @@ fn explore(kind: u32, count: usize, n: usize, opening: BTreeSet<u32>, orders: &[
     assert!(walk.ends > 0);
 }
 
-/// All sets of fewer than `n` of the labels.
-fn sets(n: usize, labels: &[u32]) -> Vec<BTreeSet<u32>> {
-    (0u32..1 << labels.len())
-        .filter(|bits| (bits.count_ones() as usize) < n)
-        .map(|bits| {
-            (0..labels.len())
-                .filter(|i| bits >> i & 1 == 1)
-                .map(|i| labels[i])
-                .collect()
-        })
-        .collect()
-}
-
-/// Every table, every two orders, every interleaving of two workers.
-#[test]
-fn all_interleavings_of_two_orders() {
-    for n in 2..=4 {
-        let labels: Vec<u32> = (1..=2 * n as u32).collect();
-        for opening in sets(n, &labels) {
-            for kind in 1..=3 {
-                for &a in &labels {
-                    for &b in &labels {
-                        explore(kind, 2, n, opening.clone(), &[a, b]);
-                    }
+/// All sets of fewer than `n` of the labels, with the prices in every way.
+fn sets(n: usize, labels: &[u32], prices: &[u32]) -> Vec<Prices> {
+    let mut sets = vec![Prices::new()];
+    for &label in labels {
+        for i in 0..sets.len() {
+            if sets[i].len() + 1 < n {
+                for &price in prices {
+                    let mut set = sets[i].clone();
+                    set.insert(label, price);
+                    sets.push(set);
                 }
             }
         }
     }
+    sets
 }
 
-/// Clusters of one home, three workers, three orders.
+/// Every table, every two orders, every interleaving of two workers; in put-in
+/// shifts with two prices for each, so that they differ, fall, rise and tie.
 #[test]
-fn all_interleavings_of_three_orders() {
-    for (n, labels) in [
-        (4, vec![3, 7, 11, 4]),
-        (4, vec![2, 3, 7, 8]),
-        (5, vec![3, 4, 8, 13]),
-    ] {
-        for opening in sets(n, &labels) {
-            for kind in 1..=2 {
+fn all_interleavings_of_two_orders() {
+    for n in 2..=4 {
+        let labels: Vec<u32> = (1..=2 * n as u32).collect();
+        for kind in 1..=3 {
+            // A take-out or look-up runs alike for all prices.
+            let two: &[u32] = if kind == PUT_IN { &[5, 9] } else { &[5] };
+            for opening in sets(n, &labels, two) {
                 for &a in &labels {
-                    for &b in labels.iter().filter(|&&b| b >= a) {
-                        for &c in labels.iter().filter(|&&c| c >= b) {
-                            explore(kind, 3, n, opening.clone(), &[a, b, c]);
+                    for &b in &labels {
+                        for &p in two {
+                            for &q in two {
+                                explore(kind, 2, n, &opening, &[(a, p), (b, q)]);
+                            }
                         }
                     }
                 }
@@ -270,27 +273,136 @@ fn all_interleavings_of_three_orders() {
     }
 }
 
-/// The layout is the only sound table with its set.
+/// Clusters of one home, three workers, three orders at different prices.
+#[test]
+fn all_interleavings_of_three_orders() {
+    for (n, labels) in [
+        (4, vec![3, 7, 11, 4]),
+        (4, vec![2, 3, 7, 8]),
+        (5, vec![3, 4, 8, 13]),
+    ] {
+        for opening in sets(n, &labels, &[7]) {
+            for kind in 1..=2 {
+                for &a in &labels {
+                    for &b in labels.iter().filter(|&&b| b >= a) {
+                        for &c in labels.iter().filter(|&&c| c >= b) {
+                            explore(kind, 3, n, &opening, &[(a, 6), (b, 4), (c, 5)]);
+                        }
+                    }
+                }
+            }
+        }
+    }
+}
+
+/// One label, or two at one home, at up to four prices from three workers.
+#[test]
+fn all_interleavings_of_prices() {
+    for (first, other) in [(8, 8), (8, 13), (13, 8)] {
+        let openings = [
+            vec![],
+            vec![(8, 1)],
+            vec![(8, 3)],
+            vec![(8, 9)],
+            vec![(13, 3)],
+            vec![(13, 9)],
+        ];
+        for opening in openings {
+            let opening: Prices = opening.into_iter().collect();
+            for p in 1..=4 {
+                for q in 1..=4 {
+                    for r in 1..=4 {
+                        explore(1, 3, 5, &opening, &[(first, p), (8, q), (other, r)]);
+                    }
+                }
+            }
+        }
+    }
+}
+
+/// The layout is the only sound table with its labels and prices: every table
+/// of these contents, some of which no sound table has.
 #[test]
 fn one_sound_table_per_set() {
     for n in 2..=4usize {
-        let most = 2 * n as u32;
-        let mut table = vec![0; n];
+        let most = if n == 4 { 6 } else { 2 * n as u32 };
+        let mut contents = vec![0];
+        for label in 1..=most {
+            contents.extend([content(label, 1), content(label, 9_999_999)]);
+        }
+        let sound_ones = contents.len();
+        if n < 4 {
+            contents.extend([1, 9_999_999, content(1, 0), content(2, 10_000_000)]);
+        }
+        let mut places = vec![0; n];
         loop {
-            let set = labels(&table);
-            if is_sound(&table) {
-                assert_eq!(table, layout(n, &set));
-            } else if set.len() < n {
-                assert_ne!(table, layout(n, &set));
-            }
+            let table: Vec<u64> = places.iter().map(|&place| contents[place]).collect();
+            let set = prices(&table);
+            let right = places.iter().all(|&place| place < sound_ones);
+            let laid = set.len() < n && right && table == layout(n, &set);
+            assert_eq!(is_sound(&table), laid, "{table:?}");
             // The next table, counting up.
-            let Some(cell) = table.iter().position(|&cell| cell < most) else {
+            let Some(cell) = places.iter().position(|&place| place + 1 < contents.len()) else {
                 break;
             };
-            table[..cell].fill(0);
-            table[cell] += 1;
+            places[..cell].fill(0);
+            places[cell] += 1;
         }
     }
+}
+
+/// Two shifts on one table, with equal labels and equal least prices ordered,
+/// close on one table: another crew, other turns, another sequence, and more
+/// orders at prices that aren't lower.
+#[test]
+fn equal_least_prices_close_alike() {
+    let mut more = 0;
+    for seed in 0..4000 {
+        let rng = &mut Rng::new(seed);
+        let n = rng.within(3, 16);
+        let label = |rng: &mut Rng| rng.within(1, 2 * n) as u32;
+        let opening: Prices = (0..rng.below(n / 2))
+            .map(|_| (label(rng), price(rng)))
+            .collect();
+        let room = n - opening.len() - 1;
+        let first: Vec<(u32, u32)> = (0..rng.within(1, room))
+            .map(|_| (label(rng), price(rng)))
+            .collect();
+        let mut second: Vec<(u32, u32)> = expected(PUT_IN, &Prices::new(), &first)
+            .into_iter()
+            .collect();
+        while second.len() < room && !rng.once_in(3) {
+            let (label, least) = rng.pick(&second);
+            let dearer = least + rng.below(3) as u32;
+            second.push((label, dearer.min(9_999_999)));
+            more += 1;
+        }
+        for i in 0..second.len() {
+            let j = rng.within(i, second.len() - 1);
+            second.swap(i, j);
+        }
+        let tables = [&first, &second].map(|orders| {
+            let mut table = layout(n, &opening);
+            let count = rng.within(1, 16);
+            let mut phase = Phase::open(1, count as u64, &table).unwrap();
+            let mut given = 0;
+            while given < orders.len() || !phase.all_idle() {
+                let worker = rng.below(count);
+                if given < orders.len() && phase.workers[worker] == Activity::Idle {
+                    let (label, price) = orders[given];
+                    phase.order(worker as u64, label, price).unwrap();
+                    given += 1;
+                } else {
+                    phase.turn(&mut table, worker as u64).unwrap();
+                }
+            }
+            phase.close().unwrap();
+            table
+        });
+        assert_eq!(tables[0], tables[1], "seed {seed}");
+        assert_eq!(tables[0], layout(n, &expected(PUT_IN, &opening, &first)));
+    }
+    assert!(more > 1000);
 }
 
 /// Forged records and altered tables: a refusal 13, or a turn that leaves
@@ -301,7 +413,12 @@ fn forged_records() {
     for seed in 0..200_000 {
         let rng = &mut Rng::new(seed);
         let n = rng.within(2, 6);
-        let mut table: Vec<u32> = (0..n).map(|_| rng.below(3 * n) as u32).collect();
+        let any = |rng: &mut Rng| {
+            // Also contents without a label or with a wrong price.
+            let price = rng.pick(&[0, 0, 1, 2, 9_999_999, 10_000_000, u32::MAX]);
+            content(rng.below(3 * n) as u32, price)
+        };
+        let mut table: Vec<u64> = (0..n).map(|_| any(rng)).collect();
         let mut phase = Phase::shut();
         phase.kind = rng.pick(&[1, 2, 2, 2, 3]);
         phase.length = n;
@@ -313,30 +430,30 @@ fn forged_records() {
             let past = usize::from(rng.once_in(8));
             rng.below(n + past)
         };
-        let label = rng.below(3 * n) as u32;
+        let entry = any(rng);
         phase.workers[worker] = match rng.below(5) {
             0 => Activity::Idle,
             1 => Activity::ReadingOn {
-                label,
+                entry,
                 cell: cell(rng),
             },
             2 => Activity::Replacing {
-                label,
+                entry,
                 cell: cell(rng),
-                found: rng.below(3 * n) as u32,
+                found: any(rng),
                 from: cell(rng),
             },
             3 => Activity::WalkingBack {
-                label,
+                entry,
                 cell: cell(rng),
             },
             _ => Activity::Seeking {
-                label,
+                entry,
                 hole: cell(rng),
                 cell: cell(rng),
                 taken: match rng.below(2) {
                     0 => None,
-                    _ => Some((rng.below(3 * n) as u32, cell(rng))),
+                    _ => Some((any(rng), cell(rng))),
                 },
             },
         };

@@ -18,7 +18,7 @@ idle-is (Reading v i) e = absurd (not-both false e refl)
 idle-is (Replacing v k j x) e = absurd (not-both false e refl)
 idle-is (WalkingBack v k) e = absurd (not-both false e refl)
 idle-is (SeekingForward v k j) e = absurd (not-both false e refl)
-idle-is (SeekingBack v k j x p) e = absurd (not-both false e refl)
+idle-is (SeekingBack p v k j x) e = absurd (not-both false e refl)
 
 pub idle-says : (a : Activity) → isIdle a ≡ true ↔ (a ≡ Idle)
 idle-says a = (idle-is a, λ e. rw e)
@@ -30,7 +30,7 @@ rests (Reading v i) z = absurd (omega arith)
 rests (Replacing v k j x) z = absurd (omega arith)
 rests (WalkingBack v k) z = absurd (omega arith)
 rests (SeekingForward v k j) z = absurd (omega arith)
-rests (SeekingBack v k j x p) z = absurd (omega arith)
+rests (SeekingBack p v k j x) z = absurd (omega arith)
 
 -- ---- activities that a worker may have
 -- of a busy one: the kind, the key and its cells, one after the other
@@ -54,29 +54,29 @@ any-kind = (λ _. tt, λ _. refl)
 not-find : (kind : ℕ) → cond (eqb kind 3) false true ≡ true ↔ (kind ≢ 3)
 not-find kind = let s = second-says (eqb kind 3) true (equal-says kind 3) any-kind in (λ e. s .0 e .0, λ h. s .1 (h, tt))
 
-pub suits-says : (kind n : ℕ) (a : Activity) → activityOk kind n a ≡ true ↔ Suits kind n a
-suits-says kind n Idle = (λ _. tt, λ _. refl)
-suits-says kind n (Reading v i) =
-    let s = busy-says true v n (i ∷ []) any-kind (one-says n i) in
+pub suits-says : (kind n : ℕ) (key : ℕ → ℕ) (a : Activity) → activityOk kind n key a ≡ true ↔ Suits kind n key a
+suits-says kind n key Idle = (λ _. tt, λ _. refl)
+suits-says kind n key (Reading v i) =
+    let s = busy-says true (key v) n (i ∷ []) any-kind (one-says n i) in
     (λ e. let h = s .0 e in (h .1 .0, h .1 .1 .0), λ h. s .1 (tt, (h .0, (h .1, tt))))
-suits-says kind n (Replacing v k j x) =
-    let s = busy-says (cond (eqb kind 3) false true) v n (k ∷ j ∷ []) (not-find kind) (two-say n k j) in
+suits-says kind n key (Replacing v k j x) =
+    let s = busy-says (cond (eqb kind 3) false true) (key v) n (k ∷ j ∷ []) (not-find kind) (two-say n k j) in
     (λ e. let h = s .0 e in (h .0, h .1 .0, h .1 .1 .0, h .1 .1 .1 .0), λ h. s .1 (h .0, (h .1, (h .2, (h .3, tt)))))
-suits-says kind n (WalkingBack v k) =
-    let s = busy-says (eqb kind 2) v n (k ∷ []) (equal-says kind 2) (one-says n k) in
+suits-says kind n key (WalkingBack v k) =
+    let s = busy-says (eqb kind 2) (key v) n (k ∷ []) (equal-says kind 2) (one-says n k) in
     (λ e. let h = s .0 e in (h .0, h .1 .0, h .1 .1 .0), λ h. s .1 (h .0, (h .1, (h .2, tt))))
-suits-says kind n (SeekingForward v k j) =
-    let s = busy-says (eqb kind 2) v n (k ∷ j ∷ []) (equal-says kind 2) (two-say n k j) in
+suits-says kind n key (SeekingForward v k j) =
+    let s = busy-says (eqb kind 2) (key v) n (k ∷ j ∷ []) (equal-says kind 2) (two-say n k j) in
     (λ e. let h = s .0 e in (h .0, h .1 .0, h .1 .1 .0, h .1 .1 .1 .0), λ h. s .1 (h .0, (h .1, (h .2, (h .3, tt)))))
-suits-says kind n (SeekingBack v k j x p) =
-    let s = busy-says (eqb kind 2) v n (k ∷ j ∷ p ∷ []) (equal-says kind 2) (three-say n k j p) in
+suits-says kind n key (SeekingBack p v k j x) =
+    let s = busy-says (eqb kind 2) (key v) n (k ∷ j ∷ p ∷ []) (equal-says kind 2) (three-say n k j p) in
     (λ e. let h = s .0 e in (h .0, h .1 .0, h .1 .1 .0, h .1 .1 .1 .0, h .1 .1 .1 .1 .0), λ h. s .1 (h .0, (h .1, (h .2, (h .3, (h .4, tt))))))
 
 -- its cells are below n
-pub cells-below : (kind n : ℕ) (a : Activity) → Suits kind n a → Below n (cellsOf a)
-cells-below kind n Idle h = tt
-cells-below kind n (Reading v i) h = (h .1, tt)
-cells-below kind n (Replacing v k j x) h = (h .2, (h .3, tt))
-cells-below kind n (WalkingBack v k) h = (h .2, tt)
-cells-below kind n (SeekingForward v k j) h = (h .2, (h .3, tt))
-cells-below kind n (SeekingBack v k j x p) h = (h .2, (h .3, (h .4, tt)))
+pub cells-below : (kind n : ℕ) (key : ℕ → ℕ) (a : Activity) → Suits kind n key a → Below n (cellsOf a)
+cells-below kind n key Idle h = tt
+cells-below kind n key (Reading v i) h = (h .1, tt)
+cells-below kind n key (Replacing v k j x) h = (h .2, (h .3, tt))
+cells-below kind n key (WalkingBack v k) h = (h .2, tt)
+cells-below kind n key (SeekingForward v k j) h = (h .2, (h .3, tt))
+cells-below kind n key (SeekingBack p v k j x) h = (h .2, (h .3, (h .4, tt)))

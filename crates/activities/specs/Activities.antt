@@ -19,16 +19,16 @@ isIdle (Reading v i) = false
 isIdle (Replacing v k j x) = false
 isIdle (WalkingBack v k) = false
 isIdle (SeekingForward v k j) = false
-isIdle (SeekingBack v k j x p) = false
+isIdle (SeekingBack p v k j x) = false
 
--- the key that it carries or works for, 0 if idle
-abbrev pub keyOf : Activity → ℕ
-keyOf Idle = 0
-keyOf (Reading v i) = v
-keyOf (Replacing v k j x) = v
-keyOf (WalkingBack v k) = v
-keyOf (SeekingForward v k j) = v
-keyOf (SeekingBack v k j x p) = v
+-- the entry that it carries, or for whose key it works, 0 if idle
+abbrev pub entryOf : Activity → ℕ
+entryOf Idle = 0
+entryOf (Reading v i) = v
+entryOf (Replacing v k j x) = v
+entryOf (WalkingBack v k) = v
+entryOf (SeekingForward v k j) = v
+entryOf (SeekingBack p v k j x) = v
 
 -- the cells that it names
 abbrev pub cellsOf : Activity → List ℕ
@@ -37,7 +37,7 @@ cellsOf (Reading v i) = i ∷ []
 cellsOf (Replacing v k j x) = k ∷ j ∷ []
 cellsOf (WalkingBack v k) = k ∷ []
 cellsOf (SeekingForward v k j) = k ∷ j ∷ []
-cellsOf (SeekingBack v k j x p) = k ∷ j ∷ p ∷ []
+cellsOf (SeekingBack p v k j x) = k ∷ j ∷ p ∷ []
 
 -- the kind of phase has it: insert reads on or replaces, find reads on, delete does all four
 abbrev pub kindHas : ℕ → Activity → Bool
@@ -46,7 +46,7 @@ kindHas kind (Reading v i) = true
 kindHas kind (Replacing v k j x) = cond (eqb kind 3) false true
 kindHas kind (WalkingBack v k) = eqb kind 2
 kindHas kind (SeekingForward v k j) = eqb kind 2
-kindHas kind (SeekingBack v k j x p) = eqb kind 2
+kindHas kind (SeekingBack p v k j x) = eqb kind 2
 
 -- ---- of all alike
 -- 1 if the worker has an unfinished operation, else 0
@@ -58,20 +58,20 @@ abbrev pub allBelow : ℕ → List ℕ → Bool
 allBelow n [] = true
 allBelow n (c ∷ cs) = cond (ltb c n) (allBelow n cs) false
 
--- a worker may have it in a phase of a kind with n cells: it is idle, or the kind has it, it works for a key, not 0, and its cells are below n. The
--- test for ill-formed records (document 01: spoilt) and the promise that none arises share it
-abbrev pub activityOk : ℕ → ℕ → Activity → Bool
-activityOk kind n a = cond (isIdle a) true (cond (kindHas kind a) (cond (eqb (keyOf a) 0) false (allBelow n (cellsOf a))) false)
+-- a worker may have it in a phase of a kind with n cells: it is idle, or the kind has it, it works for a key, not 0, and its cells are below n; its
+-- price may be any. The test for ill-formed records (document 01: spoilt) and the promise that none arises share it. `key` gives the key of an entry
+abbrev pub activityOk : ℕ → ℕ → (ℕ → ℕ) → Activity → Bool
+activityOk kind n key a = cond (isIdle a) true (cond (kindHas kind a) (cond (eqb (key (entryOf a)) 0) false (allBelow n (cellsOf a))) false)
 
 -- ---- the same as a sentence, written out for each activity, so that a wrong list of cells, key or kind above would be noticed
 -- a worker works for a key, not 0, every cell number is below n, only find has no replacing, and only delete walks back and seeks
-abbrev pub Suits : ℕ → ℕ → Activity → Type 0
-Suits kind n Idle = Unit {0}
-Suits kind n (Reading v i) = (v ≢ 0) × (i < n)
-Suits kind n (Replacing v k j x) = (kind ≢ 3) × (v ≢ 0) × (k < n) × (j < n)
-Suits kind n (WalkingBack v k) = (kind ≡ 2) × (v ≢ 0) × (k < n)
-Suits kind n (SeekingForward v k j) = (kind ≡ 2) × (v ≢ 0) × (k < n) × (j < n)
-Suits kind n (SeekingBack v k j x p) = (kind ≡ 2) × (v ≢ 0) × (k < n) × (j < n) × (p < n)
+abbrev pub Suits : ℕ → ℕ → (ℕ → ℕ) → Activity → Type 0
+Suits kind n key Idle = Unit {0}
+Suits kind n key (Reading v i) = (key v ≢ 0) × (i < n)
+Suits kind n key (Replacing v k j x) = (kind ≢ 3) × (key v ≢ 0) × (k < n) × (j < n)
+Suits kind n key (WalkingBack v k) = (kind ≡ 2) × (key v ≢ 0) × (k < n)
+Suits kind n key (SeekingForward v k j) = (kind ≡ 2) × (key v ≢ 0) × (k < n) × (j < n)
+Suits kind n key (SeekingBack p v k j x) = (kind ≡ 2) × (key v ≢ 0) × (k < n) × (j < n) × (p < n)
 
 -- ---- what a step asks for: every cell of the activity is below n
 abbrev pub Below : ℕ → List ℕ → Type 0

@@ -6,6 +6,7 @@ use Prim.Native.Nat.{ℕ, _+_, _^_, _≤_, _<_}
 use native.Mathlib.Omega.{arith}
 use lib.ListN.{length, getD, take, drop, length-append, length-drop}
 use lib.Seq.{length-take-le}
+use Rattle.prices.specs.Contents.{label}
 use Rattle.activities.specs.Activities.{activityOk, idle}
 use Rattle.state.specs.Model.{gateway}
 use Rattle.state.proofs.Model.{gateway-proper}
@@ -26,7 +27,7 @@ use Rattle.text.specs.Put.{putAt, placeAfter}
 use Rattle.lines.specs.declared.Command.{Command}
 use Rattle.lines.specs.declared.Line.{Line}
 use Rattle.printing.specs.Fields.{Printed, PrintedWithin, replyFields, turnFields}
-use Rattle.printing.proofs.Printing.{soon, reply-short, turn-short}
+use Rattle.printing.proofs.Printing.{soon, reply-short}
 use Rattle.printing.specs.declared.Told.the-variants as told
 use Rattle.dealing.specs.Reached.{Reached}
 use Rattle.dealing.proofs.Reached.{formed, sized, passed, crew, cells as opened-cells}
@@ -78,18 +79,18 @@ module _ (cells : List ℕ) (w : ℕ) (x : Replay) (ready : Ready x cells) (up :
       rw (to .worker) (turns x cells (ready .roomy) w (with-moved (x .phase) w m) u d (ap (with-moved (x .phase) w) e ∙ a, f ∙ b) long refl) in
       answers-todo x cells ready l (Perform Command.Turn) (to .asked) d (u ++ drop (x .length) cells) does kept n at out out′ end p
 
-  order-here : (l : Line) (v : ℕ) → ToWorker (x .phase .kind) (x .phase .shut) l (x .phase .crew) Command.Order w → getD (l .numbers .values) 1 0 ≡ v
-      → (g : Given) → g ≡ oneOrder gateway (x .phase .kind) (x .phase .length) (x .phase .left) worker v
+  order-here : (l : Line) (v cents : ℕ) → ToWorker (x .phase .kind) (x .phase .shut) l (x .phase .crew) Command.Order w → getD (l .numbers .values) 1 0 ≡ v → getD (l .numbers .values) 2 0 ≡ cents
+      → (g : Given) → g ≡ oneOrder gateway (x .phase .kind) (x .phase .length) (x .phase .left) worker v cents
       → (n at : ℕ) (out out′ : List ℕ) (end : ℕ) → PrintedWithin longestAnswer (lineWith n (replyFields (g .reply))) out at out′ end
       → Answers (stateOf x cells) n l cells out at cells out′ (went x w (g .worker) (g .left) end)
-  order-here l v to key g e n at out out′ end p =
-      let a = order-by-one gateway (x .phase) w v good up below in
-      let o : Replied = orderCall gateway (x .phase) w v in
+  order-here l v cents to key cost g e n at out out′ end p =
+      let a = order-by-one gateway (x .phase) w v cents good up below in
+      let o : Replied = orderCall gateway (x .phase) w v cents in
       let d : Done = toldOf (with-given (x .phase) w g .phase) (x .length) (told.Replied (g .reply)) in
       let same : d ≡ toldOf (o .phase) (x .length) (told.Replied (o .reply)) =
       ap (λ (y : Replied). toldOf (y .phase) (x .length) (told.Replied (y .reply))) (ap (with-given (x .phase) w) e ∙ a) in
       let does : Does (commanded (stateOf x cells) Command.Order (l .numbers .values)) cells cells d =
-      rw (to .worker, key) (tells-on x cells (ready .roomy) (o .phase) (told.Replied (o .reply)) d same) in
+      rw (to .worker, key, cost) (tells-on x cells (ready .roomy) (o .phase) (told.Replied (o .reply)) d same) in
       answers-todo x cells ready l (Perform Command.Order) (to .asked) d cells does refl n at out out′ end p
 
 stays : (u cells : List ℕ) (k : ℕ) → k ≤ length cells → length u ≡ length (take k cells) → length (u ++ drop k cells) ≡ length cells
@@ -97,11 +98,11 @@ stays u cells k b l = omega (arith, length-append u (drop k cells), length-drop 
 
 -- ---- what the functions ensure, said of a replay that has this worker
 module _ {cells : List ℕ} {w : ℕ} {x : Replay} (ready : Ready x cells) {l : Line} {number at : ℕ} {out out′ : List ℕ} where
-  pub order-line : {v : ℕ} {r : Ordered} → Aimed (x .phase .kind) (x .phase .shut) l (x .phase .crew) (Aim.Order w v)
-      → OrderAnswers (x .phase .kind) (x .phase .length) (x .phase .left) (getD (x .phase .workers) w idle) v number out at out′ r
+  pub order-line : {v cents : ℕ} {r : Ordered} → Aimed (x .phase .kind) (x .phase .shut) l (x .phase .crew) (Aim.Order w v cents)
+      → OrderAnswers (x .phase .kind) (x .phase .length) (x .phase .left) (getD (x .phase .workers) w idle) v cents number out at out′ r
       → Answers (stateOf x cells) number l cells out at cells out′ (went x w (r .worker) (r .left) (r .at))
-  order-line {v} {r} to h =
-      rw (h .worker, h .left) (order-here cells w x ready (to .0 .up) (to .0 .below) l v (to .0) (to .1) _ refl number at out out′ (r .at) (h .printed))
+  order-line {v} {cents} {r} to h =
+      rw (h .worker, h .left) (order-here cells w x ready (to .0 .up) (to .0 .below) l v cents (to .0) (to .1) (to .2) _ refl number at out out′ (r .at) (h .printed))
 
   pub turn-line : {cells′ : List ℕ} {r : Stepped} → Aimed (x .phase .kind) (x .phase .shut) l (x .phase .crew) (Aim.Turn w)
       → TurnAnswers (x .phase .kind) (x .phase .length) (getD (x .phase .workers) w idle) number (x .length) cells out at cells′ out′ r
@@ -129,7 +130,7 @@ few-crew cells x ready up =
 
 -- what a turn of one of its workers must find
 pub good-worker : (cells : List ℕ) (x : Replay) → Ready x cells → x .phase .shut ≡ false → (w : ℕ) → w < x .phase .crew
-    → (activityOk (x .phase .kind) (x .phase .length) (getD (x .phase .workers) w idle .activity) ≡ true) × (x .phase .length ≡ x .length)
+    → (activityOk (x .phase .kind) (x .phase .length) label (getD (x .phase .workers) w idle .activity) ≡ true) × (x .phase .length ≡ x .length)
 good-worker cells x ready up w below =
     let p = x .phase in (
       worker-good gateway p (good cells w x ready up below) w below,
@@ -138,10 +139,10 @@ good-worker cells x ready up w below =
 
 -- ---- what is printed: the number, then the fields that tell a reply
 pub turn-printed : (n : ℕ) (reply : TurnReply) {out between written after : List ℕ} {at from place behind : ℕ} → n < 2 ^ 64 → at + longestAnswer ≤ length out
-    → (from ≡ placeAfter out at (digitsOf n)) × (between ≡ putAt out at (digitsOf n)) → Printed (turnFields reply) between from written place
+    → (from ≡ placeAfter out at (digitsOf n)) × (between ≡ putAt out at (digitsOf n)) → PrintedWithin replyWidth (turnFields reply) between from written place
     → (behind ≡ placeAfter written place (10 ∷ [])) × (after ≡ putAt written place (10 ∷ []))
     → PrintedWithin longestAnswer (lineWith n (turnFields reply)) out at after behind
-turn-printed n reply fits room e m f = line-printed n fits room (omega arith) e (soon (turn-short reply) m) f
+turn-printed n reply fits room e m f = line-printed n fits room (omega arith) e m f
 
 pub reply-printed : (n : ℕ) (reply : Reply) {out between written after : List ℕ} {at from place behind : ℕ} → n < 2 ^ 64 → at + longestAnswer ≤ length out
     → (from ≡ placeAfter out at (digitsOf n)) × (between ≡ putAt out at (digitsOf n)) → Printed (replyFields reply) between from written place
@@ -150,9 +151,9 @@ pub reply-printed : (n : ℕ) (reply : Reply) {out between written after : List 
 reply-printed n reply fits room e m f = line-printed n fits room (omega arith) e (soon (reply-short reply) m) f
 
 -- ---- what the calls on one worker ensure, with what is printed
-pub order-told : {k n few : ℕ} {a : Worker} {v number : ℕ} {out out′ : List ℕ} {at end : ℕ} {g : Given} → g ≡ oneOrder gateway k n few a v
+pub order-told : {k n few : ℕ} {a : Worker} {v cents number : ℕ} {out out′ : List ℕ} {at end : ℕ} {g : Given} → g ≡ oneOrder gateway k n few a v cents
     → PrintedWithin longestAnswer (lineWith number (replyFields (g .reply))) out at out′ end
-    → OrderAnswers k n few a v number out at out′ (record { worker = g .worker; left = g .left; at = end })
+    → OrderAnswers k n few a v cents number out at out′ (record { worker = g .worker; left = g .left; at = end })
 order-told {number = number} {out} {out′} {at} {end} e p =
     record {
       worker = ap (λ (x : Given). x .worker) e;

@@ -14,6 +14,7 @@ ghost use mathlib.Core.Path.{_≡_};
 ghost use mathlib.Core.Bool.{true, false};
 ghost use Prim.Native.Nat.{_+_, _≤_, _<_};
 ghost use lib.ListN.{length, take, replicate};
+ghost use Rattle.prices.specs.Contents.{label};
 ghost use Rattle.activities.specs.Activities.{activityOk};
 ghost use Rattle.state.specs.Model.{gateway};
 ghost use Rattle.state.specs.Open.{openCall};
@@ -35,7 +36,7 @@ impl Replay {
     pub const MOST_CELLS: usize = 4096;
 
     // No output line is longer.
-    pub const LONGEST_ANSWER: usize = 45157;
+    pub const LONGEST_ANSWER: usize = 90309;
 }
 
 // The replay after a task, with what it tells and how the operations ended in a run.
@@ -69,7 +70,7 @@ pub struct Stepped {
 pub fn start() -> Replay
     ensures { λ r. ⌜ r ≡ replayOf blank ⌝ }
 {
-    let one = [0u32; 1];
+    let one = [0u64; 1];
     let refused = Phase::open(3, 1, &one);
     let phase = refused.phase;
     Replay { phase, length: 0 }
@@ -87,7 +88,7 @@ fn tell(phase: Phase, length: usize, told: Told) -> Done
     }
 }
 
-fn clear(cells: &mut [u32])
+fn clear(cells: &mut [u64])
     ensures { λ r. ⌜ now (cells .exit) ≡ replicate (length (now (cells .entry))) 0 ⌝ }
 {
     let mut i: usize = 0;
@@ -97,7 +98,7 @@ fn clear(cells: &mut [u32])
     }
 }
 
-fn set_cells(replay: Replay, length: u32, cells: &mut [u32]) -> Done
+fn set_cells(replay: Replay, length: u32, cells: &mut [u64]) -> Done
     requires { ⌜ Roomy replay (now cells) ⌝ }
     ensures { λ r. ⌜ Does (cellsTask (stateOf replay (now (cells .entry))) length) (now (cells .entry)) (now (cells .exit)) r ⌝ }
 {
@@ -120,7 +121,7 @@ fn set_cells(replay: Replay, length: u32, cells: &mut [u32]) -> Done
     tell(replay.phase, n, Told::Replied(Reply::Accepted))
 }
 
-fn open_phase(replay: Replay, kind: u32, count: u32, cells: &[u32]) -> Done
+fn open_phase(replay: Replay, kind: u32, count: u32, cells: &[u64]) -> Done
     requires { ⌜ Roomy replay (now cells) ⌝ }
     ensures { λ r. ⌜ r ≡ doneOf (calls (take (replay .length) (now (cells .entry))) (openCall gateway kind count (take (replay .length) (now (cells .entry))))) ⌝ }
 {
@@ -131,17 +132,18 @@ fn open_phase(replay: Replay, kind: u32, count: u32, cells: &[u32]) -> Done
     tell(phase, length, Told::Replied(reply))
 }
 
-fn give_order(replay: Replay, worker: u32, key: u32) -> Done
-    ensures { λ r. ⌜ r ≡ toldOf (orderCall gateway (replay .phase) worker key .phase) (replay .length) (Told.Replied (orderCall gateway (replay .phase) worker key .reply)) ⌝ }
+fn give_order(replay: Replay, worker: u32, key: u32, price: u32) -> Done
+    ensures { λ r. ⌜ r ≡ toldOf (orderCall gateway (replay .phase) worker key price .phase) (replay .length)
+        (Told.Replied (orderCall gateway (replay .phase) worker key price .reply)) ⌝ }
 {
     let phase = replay.phase;
-    let replied = calls::order(phase, worker as usize, key);
+    let replied = calls::order(phase, worker as usize, key, price);
     let next = replied.phase;
     let reply = replied.reply;
     tell(next, replay.length, Told::Replied(reply))
 }
 
-fn take_turn(replay: Replay, worker: u32, cells: &mut [u32]) -> Done
+fn take_turn(replay: Replay, worker: u32, cells: &mut [u64]) -> Done
     requires { ⌜ Roomy replay (now cells) ⌝ }
     ensures { λ r. ⌜ Does (turnTask (stateOf replay (now (cells .entry))) worker) (now (cells .entry)) (now (cells .exit)) r ⌝ }
 {
@@ -153,7 +155,7 @@ fn take_turn(replay: Replay, worker: u32, cells: &mut [u32]) -> Done
     tell(next, length, Told::Turned(reply))
 }
 
-fn run_out(replay: Replay, cells: &mut [u32]) -> Done
+fn run_out(replay: Replay, cells: &mut [u64]) -> Done
     requires { ⌜ Roomy replay (now cells) × (Reached gateway (replay .phase) (take (replay .length) (now cells)) × (replay .phase .shut ≡ false)) ⌝ }
     ensures { λ r. ⌜ Does (runTask (stateOf replay (now (cells .entry)))) (now (cells .entry)) (now (cells .exit)) r ⌝ }
 {
@@ -182,7 +184,7 @@ fn close_phase(replay: Replay) -> Done
     tell(next, replay.length, Told::Replied(reply))
 }
 
-fn list_table(replay: Replay, cells: &[u32]) -> Done
+fn list_table(replay: Replay, cells: &[u64]) -> Done
     requires { ⌜ Roomy replay (now cells) ⌝ }
     ensures { λ r. ⌜ r ≡ doneOf (listTask (stateOf replay (now (cells .entry)))) ⌝ }
 {
@@ -199,7 +201,7 @@ fn carry_out(
     replay: Replay,
     command: Command,
     values: [u32; Line::MOST_NUMBERS],
-    cells: &mut [u32],
+    cells: &mut [u64],
 ) -> Done
     requires { ⌜ Roomy replay (now cells) × RunFinds (stateOf replay (now cells)) (Task.Perform command) ⌝ }
     ensures { λ r. ⌜ Does (commanded (stateOf replay (now (cells .entry))) command values) (now (cells .entry)) (now (cells .exit)) r ⌝ }
@@ -207,7 +209,7 @@ fn carry_out(
     match command {
         Command::Cells => set_cells(replay, values[0], cells),
         Command::Open => open_phase(replay, values[0], values[1], cells),
-        Command::Order => give_order(replay, values[0], values[1]),
+        Command::Order => give_order(replay, values[0], values[1], values[2]),
         Command::Turn => take_turn(replay, values[0], cells),
         Command::Run => run_out(replay, cells),
         Command::Close => close_phase(replay),
@@ -220,7 +222,7 @@ fn carry_out(
     }
 }
 
-fn perform(replay: Replay, task: Task, values: [u32; Line::MOST_NUMBERS], cells: &mut [u32]) -> Done
+fn perform(replay: Replay, task: Task, values: [u32; Line::MOST_NUMBERS], cells: &mut [u64]) -> Done
     requires { ⌜ Roomy replay (now cells) × RunFinds (stateOf replay (now cells)) task ⌝ }
     ensures { λ r. ⌜ Does (performed (stateOf replay (now (cells .entry))) task values) (now (cells .entry)) (now (cells .exit)) r ⌝ }
 {
@@ -239,7 +241,7 @@ pub fn answer(
     replay: Replay,
     number: u64,
     line: Line,
-    cells: &mut [u32],
+    cells: &mut [u64],
     out: &mut [u8],
     at: usize,
 ) -> Answered
@@ -280,22 +282,23 @@ pub fn answer(
 }
 
 // ---- lines to one worker of an open phase, for a loop that keeps the phase in place: only the worker goes by value
-// Answers the line `number`, an order of `key` to this worker, and prints from `at` on.
+// Answers the line `number`, an order of `key` with its price to this worker, and prints from `at` on.
 pub fn answer_order(
     kind: u32,
     size: u32,
     left: u32,
     worker: Worker,
     key: u32,
+    price: u32,
     number: u64,
     out: &mut [u8],
     at: usize,
 ) -> Ordered
     requires { ⌜ (0 < size) × (at + longestAnswer ≤ length (now out)) ⌝ }
-    ensures { λ r. ⌜ OrderAnswers kind size left worker key number (now (out .entry)) at (now (out .exit)) r ⌝ }
+    ensures { λ r. ⌜ OrderAnswers kind size left worker key price number (now (out .entry)) at (now (out .exit)) r ⌝ }
 {
     let from = writing::put_number(out, at, number);
-    let given = calls::one_order(kind, size, left, worker, key);
+    let given = calls::one_order(kind, size, left, worker, key, price);
     let next = given.worker;
     let reply = given.reply;
     let behind = printing::put_reply(out, from, reply);
@@ -313,12 +316,12 @@ pub fn answer_turn(
     size: u32,
     worker: Worker,
     number: u64,
-    cells: &mut [u32],
+    cells: &mut [u64],
     places: usize,
     out: &mut [u8],
     at: usize,
 ) -> Stepped
-    requires { ⌜ (activityOk kind size (worker .activity) ≡ true) × ((size ≡ places) × ((places ≤ length (now cells)) × (at + longestAnswer ≤ length (now out)))) ⌝ }
+    requires { ⌜ (activityOk kind size label (worker .activity) ≡ true) × ((size ≡ places) × ((places ≤ length (now cells)) × (at + longestAnswer ≤ length (now out)))) ⌝ }
     ensures { λ r. ⌜ TurnAnswers kind size worker number places (now (cells .entry)) (now (out .entry)) at (now (cells .exit)) (now (out .exit)) r ⌝ }
 {
     let from = writing::put_number(out, at, number);

@@ -13,44 +13,46 @@ ghost use Rattle.numbered.specs.Lists.{callsLent, RunsFrom};
 // each call goes by itself.
 pub fn run_from(
     phase: Phase,
-    cells: &mut [u32],
+    cells: &mut [u64],
     ops: &[u32],
     workers: &[u32],
     keys: &[u32],
+    prices: &[u32],
     answers: &mut [u64],
 ) -> Phase
-    ensures { λ r. ⌜ RunsFrom gateway phase (now (cells .entry)) (callsLent (now (ops .entry)) (now (workers .entry)) (now (keys .entry)) (now (answers .entry)))
+    ensures { λ r. ⌜ RunsFrom gateway phase (now (cells .entry)) (callsLent (now (ops .entry)) (now (workers .entry)) (now (keys .entry)) (now (prices .entry)) (now (answers .entry)))
         (now (answers .entry)) r (now (cells .exit)) (now (answers .exit)) ⌝ }
 {
     if phase.length as usize != cells.len() {
-        return run_singly(phase, cells, ops, workers, keys, answers);
+        return run_singly(phase, cells, ops, workers, keys, prices, answers);
     }
     if !is_well_formed(phase) {
-        return run_singly(phase, cells, ops, workers, keys, answers);
+        return run_singly(phase, cells, ops, workers, keys, prices, answers);
     }
-    run_tested(phase, cells, ops, workers, keys, answers)
+    run_tested(phase, cells, ops, workers, keys, prices, answers)
 }
 
 // Opens a phase and, if the opening is accepted, applies calls as above.
 pub fn run_calls(
     kind: u64,
     count: u64,
-    cells: &mut [u32],
+    cells: &mut [u64],
     ops: &[u32],
     workers: &[u32],
     keys: &[u32],
+    prices: &[u32],
     answers: &mut [u64],
 ) -> Replied
-    ensures is_run { λ r. ⌜ Ran gateway kind count (now (cells .entry)) (now (ops .entry)) (now (workers .entry)) (now (keys .entry)) (now (answers .entry))
+    ensures is_run { λ r. ⌜ Ran gateway kind count (now (cells .entry)) (now (ops .entry)) (now (workers .entry)) (now (keys .entry)) (now (prices .entry)) (now (answers .entry))
         r (now (cells .exit)) (now (answers .exit)) ⌝ }
-    ensures promise { λ r. ⌜ Promised gateway kind count (now (cells .entry)) (now (ops .entry)) (now (workers .entry)) (now (keys .entry)) (now (answers .entry)) ⌝ }
+    ensures promise { λ r. ⌜ Promised gateway kind count (now (cells .entry)) (now (ops .entry)) (now (workers .entry)) (now (keys .entry)) (now (prices .entry)) (now (answers .entry)) ⌝ }
 {
     let opened = Phase::open(kind, count, cells);
     let phase = opened.phase;
     let reply = opened.reply;
     match reply {
         Reply::Accepted => Replied {
-            phase: run_from(phase, cells, ops, workers, keys, answers),
+            phase: run_from(phase, cells, ops, workers, keys, prices, answers),
             reply: Reply::Accepted,
         },
         Reply::Refused(why) => Replied {
@@ -64,22 +66,23 @@ pub fn run_calls(
 pub fn run_calls_singly(
     kind: u64,
     count: u64,
-    cells: &mut [u32],
+    cells: &mut [u64],
     ops: &[u32],
     workers: &[u32],
     keys: &[u32],
+    prices: &[u32],
     answers: &mut [u64],
 ) -> Replied
-    ensures is_run { λ r. ⌜ Ran gateway kind count (now (cells .entry)) (now (ops .entry)) (now (workers .entry)) (now (keys .entry)) (now (answers .entry))
+    ensures is_run { λ r. ⌜ Ran gateway kind count (now (cells .entry)) (now (ops .entry)) (now (workers .entry)) (now (keys .entry)) (now (prices .entry)) (now (answers .entry))
         r (now (cells .exit)) (now (answers .exit)) ⌝ }
-    ensures promise { λ r. ⌜ Promised gateway kind count (now (cells .entry)) (now (ops .entry)) (now (workers .entry)) (now (keys .entry)) (now (answers .entry)) ⌝ }
+    ensures promise { λ r. ⌜ Promised gateway kind count (now (cells .entry)) (now (ops .entry)) (now (workers .entry)) (now (keys .entry)) (now (prices .entry)) (now (answers .entry)) ⌝ }
 {
     let opened = Phase::open(kind, count, cells);
     let phase = opened.phase;
     let reply = opened.reply;
     match reply {
         Reply::Accepted => Replied {
-            phase: run_singly(phase, cells, ops, workers, keys, answers),
+            phase: run_singly(phase, cells, ops, workers, keys, prices, answers),
             reply: Reply::Accepted,
         },
         Reply::Refused(why) => Replied {

@@ -43,7 +43,7 @@ pub fn fill(
     carried: Carried,
     block: &[u8],
     line: &mut [u8],
-    cells: &mut [u32],
+    cells: &mut [u64],
     out: &mut [u8],
 ) -> Filled
     requires { ⌜ Fit carried (now line) (now cells) (length (now block)) × ((0 < length (now block)) × (longestAnswer ≤ length (now out))) ⌝ }
@@ -95,7 +95,7 @@ pub fn fill(
         from = end + 1;
         let aim = dispatching::aim_of(phase.kind, phase.shut, read, phase.crew);
         match aim {
-            Aim::Order(worker, key) => {
+            Aim::Order(worker, key, price) => {
                 let w = worker as usize;
                 let ordered = answering::answer_order(
                     phase.kind,
@@ -103,6 +103,7 @@ pub fn fill(
                     phase.left,
                     phase.workers[w],
                     key,
+                    price,
                     number,
                     out,
                     at,
@@ -176,7 +177,7 @@ pub fn fill(
 }
 
 // Answers a last line that no newline ends, if it has a byte. The result is how far the buffer is filled.
-pub fn last_line(carried: Carried, line: &[u8], cells: &mut [u32], out: &mut [u8]) -> usize
+pub fn last_line(carried: Carried, line: &[u8], cells: &mut [u64], out: &mut [u8]) -> usize
     requires { ⌜ Fit carried (now line) (now cells) 1 × (longestAnswer ≤ length (now out)) ⌝ }
     ensures { λ r. ⌜ (take r (now (out .exit)) ≡ lastOutput (keptOf carried (now (line .entry)) (now (cells .entry)))) × (r ≤ length (now (out .exit))) ⌝ }
 {

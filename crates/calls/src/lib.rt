@@ -6,6 +6,9 @@ use formed::is_idle;
 use formed::is_well_formed;
 use formed::numbers_ok;
 use formed::worker_ok;
+use prices::HIGHEST;
+use prices::PRICES;
+use probing::find_step;
 use probing::touched;
 use protocol::Given;
 use protocol::Moved;
@@ -23,10 +26,12 @@ ghost use mathlib.Core.Bool.{true, cond};
 ghost use Prim.Native.Nat.{_-_, _<_};
 ghost use lib.Dec.{eqb};
 ghost use lib.ListN.{length};
+ghost use Rattle.prices.specs.Contents.{label, priceOk};
 ghost use Rattle.activities.specs.Activities.{activityOk};
 ghost use Rattle.state.specs.Model.{gateway};
-ghost use Rattle.protocol.specs.Bars.{usedUp};
-ghost use Rattle.protocol.specs.Calls.{closeCall, orderCall, turnCall, turnTable};
+ghost use Rattle.state.specs.Refusals.{firstOf};
+ghost use Rattle.protocol.specs.Bars.{usedUp, mispriced, workerBars};
+ghost use Rattle.protocol.specs.Calls.{entryFor, closeCall, orderCall, turnCall, turnTable};
 ghost use Rattle.protocol.specs.Split.{oneOrder, oneTurn, oneTable};
 
 // ---- close
@@ -67,6 +72,35 @@ fn is_full(kind: u32, left: u32) -> bool
     if kind == 1 { left == 0 } else { false }
 }
 
+// Whether a price may be kept with a key: from 1 to 9,999,999.
+fn price_ok(price: u32) -> bool
+    ensures { λ r. ⌜ r ≡ priceOk price ⌝ }
+{
+    if 1 <= price {
+        price as u64 <= HIGHEST
+    } else {
+        false
+    }
+}
+
+// The price is read in insert phases alone.
+fn is_mispriced(kind: u32, price: u32) -> bool
+    ensures { λ r. ⌜ r ≡ mispriced kind price ⌝ }
+{
+    if kind == 1 { !price_ok(price) } else { false }
+}
+
+// What an order is for: an insert takes the price along, the others go by the key alone.
+fn entry_for(kind: u32, key: u32, price: u32) -> u64
+    ensures { λ r. ⌜ r ≡ entryFor kind key price ⌝ }
+{
+    if kind == 1 {
+        key as u64 * PRICES + price as u64
+    } else {
+        key as u64 * PRICES
+    }
+}
+
 // The insert operations left after one more order.
 fn left_after(kind: u32, left: u32) -> u32
     ensures { λ r. ⌜ r ≡ cond (eqb kind 1) (left - 1) left ⌝ }
@@ -77,46 +111,55 @@ fn left_after(kind: u32, left: u32) -> u32
     if left == 0 { 0 } else { left - 1 }
 }
 
-// An order to one worker by itself. The rest of its phase is not tested.
-pub fn one_order(kind: u32, length: u32, left: u32, worker: Worker, key: u32) -> Given
-    requires { ⌜ 0 < length ⌝ }
-    ensures { λ r. ⌜ r ≡ oneOrder gateway kind length left worker key ⌝ }
+// The answer of an order to a worker with this activity.
+fn one_reply(kind: u32, left: u32, activity: Activity, key: u32, price: u32) -> Reply
+    ensures { λ r. ⌜ r ≡ firstOf (workerBars kind left activity key price) ⌝ }
 {
-    let activity = worker.activity;
     if !is_idle(activity) {
-        return Given {
-            worker,
-            left,
-            reply: Reply::Refused(Refusal::Busy),
-        };
+        return Reply::Refused(Refusal::Busy);
     }
     if key == 0 {
-        return Given {
-            worker,
-            left,
-            reply: Reply::Refused(Refusal::Blank),
-        };
+        return Reply::Refused(Refusal::Blank);
+    }
+    if is_mispriced(kind, price) {
+        return Reply::Refused(Refusal::WrongPrice);
     }
     if is_full(kind, left) {
-        return Given {
+        return Reply::Refused(Refusal::Full);
+    }
+    Reply::Accepted
+}
+
+// An order to one worker by itself. The rest of its phase is not tested. All refusals share one way out, so that the worker is copied once.
+pub fn one_order(kind: u32, length: u32, left: u32, worker: Worker, key: u32, price: u32) -> Given
+    requires { ⌜ 0 < length ⌝ }
+    ensures { λ r. ⌜ r ≡ oneOrder gateway kind length left worker key price ⌝ }
+{
+    let activity = worker.activity;
+    let reply = one_reply(kind, left, activity, key, price);
+    match reply {
+        Reply::Accepted => {
+            let cell = geometry::home(length, key);
+            let entry = entry_for(kind, key, price);
+            Given {
+                worker: Worker {
+                    activity: Activity::Reading { entry, cell },
+                },
+                left: left_after(kind, left),
+                reply: Reply::Accepted,
+            }
+        }
+        Reply::Refused(why) => Given {
             worker,
             left,
-            reply: Reply::Refused(Refusal::Full),
-        };
-    }
-    let cell = geometry::home(length, key);
-    Given {
-        worker: Worker {
-            activity: Activity::Reading { key, cell },
+            reply: Reply::Refused(why),
         },
-        left: left_after(kind, left),
-        reply: Reply::Accepted,
     }
 }
 
 // An order to one worker of the phase. The workers are tested in its own body: the phase is not copied for it.
-pub fn order(mut phase: Phase, worker: usize, key: u32) -> Replied
-    ensures { λ r. ⌜ r ≡ orderCall gateway phase worker key ⌝ }
+pub fn order(mut phase: Phase, worker: usize, key: u32, price: u32) -> Replied
+    ensures { λ r. ⌜ r ≡ orderCall gateway phase worker key price ⌝ }
 {
     if !numbers_ok(phase.kind, phase.length, phase.crew, phase.left) {
         return refused(phase, Refusal::Spoilt);
@@ -142,6 +185,7 @@ pub fn order(mut phase: Phase, worker: usize, key: u32) -> Replied
         phase.left,
         phase.workers[worker],
         key,
+        price,
     );
     let next = given.worker;
     let reply = given.reply;
@@ -152,8 +196,8 @@ pub fn order(mut phase: Phase, worker: usize, key: u32) -> Replied
 
 // ---- turn
 // The turn of a worker that its phase may have, on a table as long as its phase says. Neither is tested.
-pub fn one_turn(kind: u32, size: u32, cells: &mut [u32], worker: Worker) -> Moved
-    requires { ⌜ (activityOk kind size (worker .activity) ≡ true) × (size ≡ length (now cells)) ⌝ }
+pub fn one_turn(kind: u32, size: u32, cells: &mut [u64], worker: Worker) -> Moved
+    requires { ⌜ (activityOk kind size label (worker .activity) ≡ true) × (size ≡ length (now cells)) ⌝ }
     ensures { λ r. ⌜ (r ≡ oneTurn gateway kind size (now (cells .entry)) worker) × (now (cells .exit) ≡ oneTable gateway kind size (now (cells .entry)) worker) ⌝ }
 {
     let activity = worker.activity;
@@ -173,6 +217,27 @@ pub fn one_turn(kind: u32, size: u32, cells: &mut [u32], worker: Worker) -> Move
     }
 }
 
+// The same in a find phase, which leaves the table as it is. Short enough to be part of its callers.
+pub fn one_find(size: u32, cells: &[u64], worker: Worker) -> Moved
+    requires { ⌜ (activityOk 3 size label (worker .activity) ≡ true) × (size ≡ length (now cells)) ⌝ }
+    ensures { λ r. ⌜ (r ≡ oneTurn gateway 3 size (now (cells .entry)) worker) × (now (cells .entry) ≡ oneTable gateway 3 size (now (cells .entry)) worker) ⌝ }
+{
+    let activity = worker.activity;
+    let Activity::Reading { cell, .. } = activity else {
+        return Moved {
+            worker,
+            reply: TurnReply::Answered(Answer::Idle),
+        };
+    };
+    let found = find_step(size, activity, cells[cell as usize]);
+    let next = found.activity;
+    let answer = found.answer;
+    Moved {
+        worker: Worker { activity: next },
+        reply: TurnReply::Answered(answer),
+    }
+}
+
 // The phase as it is, with a refusal.
 fn turn_refused(phase: Phase, why: Refusal) -> Turned
     ensures { λ r. ⌜ r ≡ record { phase = phase; reply = TurnReply.Refused why } ⌝ }
@@ -184,7 +249,7 @@ fn turn_refused(phase: Phase, why: Refusal) -> Turned
 }
 
 // A turn of one worker of the phase. The workers are tested in its own body: the phase is not copied for it.
-pub fn turn(mut phase: Phase, cells: &mut [u32], worker: usize) -> Turned
+pub fn turn(mut phase: Phase, cells: &mut [u64], worker: usize) -> Turned
     ensures { λ r. ⌜ (r ≡ turnCall gateway phase (now (cells .entry)) worker) × (now (cells .exit) ≡ turnTable gateway phase (now (cells .entry)) worker) ⌝ }
 {
     if !numbers_ok(phase.kind, phase.length, phase.crew, phase.left) {

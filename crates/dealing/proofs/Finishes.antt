@@ -1,4 +1,4 @@
--- The finishes of a run, by an invariant for each worker: it was idle and is; or it was busy and is, for the same key in a find phase; or it was busy,
+-- The finishes of a run, by an invariant for each worker: it was idle and is; or it was busy and is, for the same entry in a find phase; or it was busy,
 -- is idle, and its finish is right.
 use mathlib.Core.Path.{_≡_, refl, sym, ap, _∙_, subst}
 use mathlib.Core.Logic.{_≢_, _↔_, _⊎_, inl, inr}
@@ -10,10 +10,11 @@ use lib.ListN.{length, getD, length-set, length-replicate}
 use lib.Seq.{getD-set-same, getD-set-other}
 use Rattle.ring.proofs.Split.{by-eq}
 use Rattle.ring.proofs.Tests.{by-test, not-both}
-use Rattle.layout.specs.Layout.{In}
+use Rattle.prices.specs.Contents.{label}
 use Rattle.rule.proofs.Crew.{replicate-at}
+use Rattle.phases.specs.Promise.{Sold}
 use Rattle.phases.proofs.Steps.{either}
-use Rattle.activities.specs.Activities.{isIdle, keyOf}
+use Rattle.activities.specs.Activities.{isIdle, entryOf}
 use Rattle.activities.specs.declared.Activity.{Activity}
 use Rattle.activities.specs.declared.Activity.the-variants.{Idle}
 use Rattle.activities.proofs.Activities.{idle-says}
@@ -43,8 +44,8 @@ use Rattle.dealing.proofs.Settling.{Opened, deal-to-opened}
 -- ---- one worker that was doing `before` is doing `now`, and its finish is f
 pub data Stands (k : ℕ) (t : List ℕ) (before now : Activity) (f : Finish) : Type 0 where
   resting : before ≡ Idle → now ≡ Idle → f ≡ unfinished → Stands k t before now f
-  working : before ≢ Idle → now ≢ Idle → (k ≡ 3 → keyOf now ≡ keyOf before) → f ≡ unfinished → Stands k t before now f
-  done : before ≢ Idle → now ≡ Idle → Ends k t (keyOf before) (f .ended) → Stands k t before now f
+  working : before ≢ Idle → now ≢ Idle → (k ≡ 3 → entryOf now ≡ entryOf before) → f ≡ unfinished → Stands k t before now f
+  done : before ≢ Idle → now ≡ Idle → Ends k t (entryOf before) (f .ended) → Stands k t before now f
 
 by-idle {ℓ} : {C : Type ℓ} (a : Activity) → (a ≡ Idle → C) → (a ≢ Idle → C) → C
 by-idle a f g = by-test (isIdle a) (λ e. f (idle-says a .0 e)) (λ e. g (λ i. not-both (isIdle a) (idle-says a .1 i) e))
@@ -53,19 +54,19 @@ module _ (k : ℕ) (t : List ℕ) where
   stands-at-first : (a : Activity) → Stands k t a a unfinished
   stands-at-first a = by-idle a (λ i. resting i i refl) (λ b. working b b (λ _. refl) refl)
 
-  -- the finish for a key of a find phase is the finish for the same key
+  -- the finish for an entry of a find phase is the finish for the same entry
   ends-same : (v x : ℕ) (e : Ended) → (k ≡ 3 → v ≡ x) → Ends k t v e → Ends k t x e
   ends-same v x ended.Nothing same h = h
   ends-same v x ended.Finished same h = h
-  ends-same v x ended.Yes same h = (h .0, subst (λ y. In y t) (same (h .0)) (h .1))
-  ends-same v x ended.No same h = (h .0, λ i. h .1 (subst (λ y. In y t) (sym (same (h .0))) i))
+  ends-same v x (ended.Price q) same h = (h .0, subst (λ y. (z : ℕ) → (q ≡ z) ↔ Sold label t (label y) z) (same (h .0)) (h .1))
+  ends-same v x ended.No same h = (h .0, subst (λ y. (z : ℕ) → Sold label t (label y) z → ⊥) (same (h .0)) (h .1))
 
   -- a turn of the worker
   stands-on : (before now next : Activity) (f : Finish) (a : Answer) → Stands k t before now f → Moves k t now next a → Stands k t before next (finishBy f a)
   stands-on before now next f a (resting b i n) (goes same key stays) = resting b (same .1 i) (stays f ∙ n)
   stands-on before now next f a (resting b i n) (ends busy free fin) = absurd (busy i)
   stands-on before now next f a (working b w key n) (goes same kept stays) = working b (λ i. w (same .0 i)) (λ find. kept find ∙ key find) (stays f ∙ n)
-  stands-on before now next f a (working b w key n) (ends busy free fin) = done b free (ends-same (keyOf now) (keyOf before) (finishBy f a .ended) key (fin f))
+  stands-on before now next f a (working b w key n) (ends busy free fin) = done b free (ends-same (entryOf now) (entryOf before) (finishBy f a .ended) key (fin f))
   stands-on before now next f a (done b i fin) (goes same key stays) = done b (same .1 i) (rw (stays f) fin)
   stands-on before now next f a (done b i fin) (ends busy free _) = absurd (busy i)
 
@@ -143,23 +144,30 @@ module _ (k : ℕ) (t : List ℕ) (v : ℕ) where
   pub ends-finished : (e : Ended) → Ends k t v e → k ≢ 3 → e ≡ ended.Finished
   ends-finished ended.Nothing h ne = absurd h
   ends-finished ended.Finished h ne = refl
-  ends-finished ended.Yes h ne = absurd (ne (h .0))
+  ends-finished (ended.Price q) h ne = absurd (ne (h .0))
   ends-finished ended.No h ne = absurd (ne (h .0))
 
-  pub ends-answered : (e : Ended) → Ends k t v e → k ≡ 3 → (e ≡ ended.Yes) ⊎ (e ≡ ended.No)
+  pub ends-answered : (e : Ended) → Ends k t v e → k ≡ 3 → ((q : ℕ) × (e ≡ ended.Price q)) ⊎ (e ≡ ended.No)
   ends-answered ended.Nothing h find = absurd h
   ends-answered ended.Finished h find = absurd (h find)
-  ends-answered ended.Yes h find = inl refl
+  ends-answered (ended.Price q) h find = inl (q, refl)
   ends-answered ended.No h find = inr refl
 
-  pub ends-right : (e : Ended) → Ends k t v e → k ≡ 3 → (e ≡ ended.Yes) ↔ In v t
-  ends-right ended.Nothing h find = absurd h
-  ends-right ended.Finished h find = absurd (h find)
-  ends-right ended.Yes h find = (λ _. h .1, λ _. refl)
-  ends-right ended.No h find = (λ z. absurd (let y : _≡_ {A = ℕ} 0 1 = cc in omega arith), λ i. absurd (h .1 i))
+  -- the price that a finish tells, 0 if it tells none
+  abbrev toldPrice : Ended → ℕ
+  toldPrice ended.Nothing = 0
+  toldPrice ended.Finished = 0
+  toldPrice (ended.Price q) = q
+  toldPrice ended.No = 0
+
+  pub ends-right : (e : Ended) → Ends k t v e → k ≡ 3 → (q : ℕ) → (e ≡ ended.Price q) ↔ Sold label t (label v) q
+  ends-right ended.Nothing h find q = absurd h
+  ends-right ended.Finished h find q = absurd (h find)
+  ends-right (ended.Price x) h find q = (λ z. h .1 q .0 (ap toldPrice z), λ s. ap ended.Price (h .1 q .1 s))
+  ends-right ended.No h find q = (λ z. absurd (let y : _≡_ {A = ℕ} 0 1 = cc in omega arith), λ s. absurd (h .1 q s))
 
 module _ (k : ℕ) (t : List ℕ) (before now : Activity) (f : Finish) (free : now ≡ Idle) where
-  pub finish-right : Stands k t before now f → before ≢ Idle → Ends k t (keyOf before) (f .ended)
+  pub finish-right : Stands k t before now f → before ≢ Idle → Ends k t (entryOf before) (f .ended)
   finish-right (resting b i n) busy = absurd (busy b)
   finish-right (working b w key n) busy = absurd (w free)
   finish-right (done b i fin) busy = fin

@@ -7,6 +7,7 @@ use native.Mathlib.Numerals.{add-one}
 use native.Mathlib.Omega.{arith}
 use lib.ListN.{length, getD, set}
 use lib.Seq.{set-getD}
+use Rattle.prices.specs.Contents.{label}
 use Rattle.state.specs.Model.{Model, Proper}
 use Rattle.activities.specs.Activities.{idle, activityOk, isIdle}
 use Rattle.activities.specs.declared.Activity.the-variants.{Idle}
@@ -117,6 +118,38 @@ module _ (M : Model) (proper : Proper M) where
           (record { dealt = record { phase = withWorker p w (moved .worker .activity); finishes = set (d .dealt .finishes) w f }; table = u }) (w + 1)
       lap-next l moved u f a b e = rw (e, a, b) (lap-on l)
 
+      -- the same where the reply leaves the worker's finish as it was
+      pub lap-keeps : w < count → (moved : Moved) (u : List ℕ)
+          → let p = d .dealt .phase in
+          let worker = getD (p .workers) w idle in
+          moved ≡ oneTurn M (p .kind) (p .length) (d .table) worker → u ≡ oneTable M (p .kind) (p .length) (d .table) worker
+          → ((f : Finish) → finishAfter f (moved .reply) ≡ f)
+          → Lapping M d₀ count (record { dealt = record { phase = withWorker p w (moved .worker .activity); finishes = d .dealt .finishes }; table = u }) (w + 1)
+      lap-keeps l moved u a b k =
+          let before = getD (d .dealt .finishes) w unfinished in
+          let same : set (d .dealt .finishes) w before ≡ d .dealt .finishes = set-getD (d .dealt .finishes) w unfinished in
+          rw same at (lap-next l moved u before a b (sym (k before)))
+
+      -- the same in a find phase, which leaves the table as it is
+      module _ (l : w < count) (moved : Moved) (k : d .dealt .phase .kind ≡ 3)
+          (a : let p = d .dealt .phase in moved ≡ oneTurn M 3 (p .length) (d .table) (getD (p .workers) w idle))
+          (b : let p = d .dealt .phase in d .table ≡ oneTable M 3 (p .length) (d .table) (getD (p .workers) w idle)) where
+        found : let p = d .dealt .phase in moved ≡ oneTurn M (p .kind) (p .length) (d .table) (getD (p .workers) w idle)
+        found = let p = d .dealt .phase in a ∙ ap (λ (x : ℕ). oneTurn M x (p .length) (d .table) (getD (p .workers) w idle)) (sym k)
+
+        unchanged : let p = d .dealt .phase in d .table ≡ oneTable M (p .kind) (p .length) (d .table) (getD (p .workers) w idle)
+        unchanged = let p = d .dealt .phase in b ∙ ap (λ (x : ℕ). oneTable M x (p .length) (d .table) (getD (p .workers) w idle)) (sym k)
+
+        pub found-next : (f : Finish) → f ≡ finishAfter (getD (d .dealt .finishes) w unfinished) (moved .reply)
+            → Lapping M d₀ count
+            (record { dealt = record { phase = withWorker (d .dealt .phase) w (moved .worker .activity); finishes = set (d .dealt .finishes) w f }; table = d .table }) (w + 1)
+        found-next f e = lap-next l moved (d .table) f found unchanged e
+
+        pub found-keeps : ((f : Finish) → finishAfter f (moved .reply) ≡ f)
+            → Lapping M d₀ count
+            (record { dealt = record { phase = withWorker (d .dealt .phase) w (moved .worker .activity); finishes = d .dealt .finishes }; table = d .table }) (w + 1)
+        found-keeps e = lap-keeps l moved (d .table) found unchanged e
+
       -- the same with a worker that the code passes over
       pub lap-skips : w < count → isIdle (doing (d .dealt .phase) w) ≡ true → Lapping M d₀ count d (w + 1)
       lap-skips l free =
@@ -133,7 +166,7 @@ module _ (M : Model) (proper : Proper M) where
       -- what the next worker's turn must find
       pub lap-good : w < count
           → let p = d .dealt .phase in
-          (activityOk (p .kind) (p .length) (doing p w) ≡ true) × (p .length ≡ length (d .table))
+          (activityOk (p .kind) (p .length) label (doing p w) ≡ true) × (p .length ≡ length (d .table))
       lap-good l =
           let p = d .dealt .phase in
           let good = formed M proper (g .reached .kind) (g .reached .crew) (g .reached .opened) p (d .table) (here .from) in
@@ -141,6 +174,14 @@ module _ (M : Model) (proper : Proper M) where
             good-worker M p good w (omega arith),
             sized M proper (g .reached .kind) (g .reached .crew) (g .reached .opened) p (d .table) (here .from),
           )
+
+      pub found-good : w < count → d .dealt .phase .kind ≡ 3
+          → let p = d .dealt .phase in
+          (activityOk 3 (p .length) label (doing p w) ≡ true) × (p .length ≡ length (d .table))
+      found-good l k =
+          let p = d .dealt .phase in
+          let good = lap-good l in
+          (ap (λ (x : ℕ). activityOk x (p .length) label (doing p w)) (sym k) ∙ good .0, good .1)
 
       pub lap-ends : count ≤ w → d ≡ lap M d₀
       lap-ends l = let e : w ≡ d₀ .dealt .phase .crew = omega (arith, g .all, g .within) in g .same ∙ ap (λ x. deal M x d₀) e

@@ -5,4 +5,5 @@ pub mod Laps
 pub mod Reached
 pub mod Rounds
 pub mod Settling
+pub mod Telling
 pub mod Theorem

@@ -7,6 +7,8 @@ use Prim.Native.Nat.{ℕ, zero, suc, _≤_, _<_}
 use native.Mathlib.Omega.{arith}
 use lib.ListN.{length, length-set}
 use Rattle.ring.proofs.Tests.{by-test}
+use Rattle.prices.specs.Contents.{label}
+use Rattle.prices.proofs.Contents.{contents}
 use Rattle.rule.specs.Events as events
 use Rattle.rule.specs.Events.{AllIdle, Run, step, event}
 use Rattle.rule.specs.Schedules as schedules
@@ -32,7 +34,7 @@ use Rattle.protocol.specs.Bars.{doing}
 use Rattle.protocol.specs.Calls.{cellsAt, turnedCells, turnCheck, turnCall, turnTable}
 use Rattle.dealing.specs.Reached.{From, Reached}
 use Rattle.dealing.specs.Deal.{Dealing, begun, dealTo, deal, lap, laps, enough, run}
-use Rattle.dealing.proofs.Reached.{passed, homes, shown, cells, crew, accepts, turn-from, turn-leaves}
+use Rattle.dealing.proofs.Reached.{passed, homes, shown, roomy, cells, crew, accepts, turn-from, turn-leaves}
 use Rattle.dealing.proofs.Laps.{atRest, left, left-falls, left-stays, laps-stay, laps-at-rest, rests-within}
 
 -- ---- the phase and the table of a dealing, in an open phase
@@ -76,7 +78,7 @@ module _ (M : Model) (proper : Proper M) where
       phase : d .dealt .phase ≡ history .phase
       table : d .table ≡ history .table
 
-    deal-to-follows : (w : ℕ) (d : Dealing) (r : Run) → Follows d r → w < m → Follows (dealTo M w d) (event k (length t) (M .home (length t)) (step w) r)
+    deal-to-follows : (w : ℕ) (d : Dealing) (r : Run) → Follows d r → w < m → Follows (dealTo M w d) (event k (length t) label (M .home (length t)) (step w) r)
     unfolding dealTo
     deal-to-follows w d r f l =
         let p = d .dealt .phase in
@@ -91,30 +93,30 @@ module _ (M : Model) (proper : Proper M) where
           table = rw (f .phase, f .table) (turn-leaves M proper w (f .history) .1);
         }
 
-    deal-follows : (w : ℕ) (d : Dealing) (r : Run) → Follows d r → w ≤ m → Follows (deal M w d) (dealt k (length t) (M .home (length t)) w r)
+    deal-follows : (w : ℕ) (d : Dealing) (r : Run) → Follows d r → w ≤ m → Follows (deal M w d) (dealt k (length t) label (M .home (length t)) w r)
     unfolding deal dealt
     deal-follows zero d r f l = f
-    deal-follows (suc w) d r f l = deal-to-follows w (deal M w d) (dealt k (length t) (M .home (length t)) w r) (deal-follows w d r f (omega arith)) (omega arith)
+    deal-follows (suc w) d r f l = deal-to-follows w (deal M w d) (dealt k (length t) label (M .home (length t)) w r) (deal-follows w d r f (omega arith)) (omega arith)
 
-    lap-follows : (d : Dealing) (r : Run) → Follows d r → Follows (lap M d) (dealt k (length t) (M .home (length t)) m r)
+    lap-follows : (d : Dealing) (r : Run) → Follows d r → Follows (lap M d) (dealt k (length t) label (M .home (length t)) m r)
     lap-follows d r f =
-        subst (λ x. Follows (deal M x d) (dealt k (length t) (M .home (length t)) m r)) (sym (crew M proper k m t (d .dealt .phase) (d .table) (f .opened .from)))
+        subst (λ x. Follows (deal M x d) (dealt k (length t) label (M .home (length t)) m r)) (sym (crew M proper k m t (d .dealt .phase) (d .table) (f .opened .from)))
         (deal-follows m d r f (omega arith))
 
     -- ---- all idle
     rests : (d : Dealing) (r : Run) → Follows d r → AllIdle r → atRest d ≡ true
     rests d r f idle = rw (f .phase) (all-idle-says (f .history .phase .workers) .1 (λ w. f .shows .crew .same w ∙ idle w))
 
-    left-few : (f : ℕ) (d : Dealing) (r : Run) → Follows d r → AllIdle (events.run k (length t) (M .home (length t)) (schedules.rounds m f) r) → left M (suc f) d ≤ f
+    left-few : (f : ℕ) (d : Dealing) (r : Run) → Follows d r → AllIdle (events.run k (length t) label (M .home (length t)) (schedules.rounds m f) r) → left M (suc f) d ≤ f
     unfolding left events.run schedules.rounds
     left-few zero d r h idle = rw (rests d r h idle) (omega arith)
     left-few (suc f) d r h idle = by-test (atRest d)
         (λ e. rw e (omega arith))
         (λ e.
         let g = lap-follows d r h in
-        let i : AllIdle (events.run k (length t) (M .home (length t)) (schedules.rounds m f) (dealt k (length t) (M .home (length t)) m r)) =
+        let i : AllIdle (events.run k (length t) label (M .home (length t)) (schedules.rounds m f) (dealt k (length t) label (M .home (length t)) m r)) =
         rw round-dealt at idle in
-        rw e (omega (arith, left-few f (lap M d) (dealt k (length t) (M .home (length t)) m r) g i)))
+        rw e (omega (arith, left-few f (lap M d) (dealt k (length t) label (M .home (length t)) m r) g i)))
 
   kinds : (k : ℕ) → Kind k → (k ≡ 1) ⊎ (k ≡ 2) ⊎ (k ≡ 3)
   kinds k e = by-kinds k e inl (λ z. inr (inl z)) (λ z. inr (inr z))
@@ -124,10 +126,10 @@ module _ (M : Model) (proper : Proper M) where
   few-laps k m t p u h up =
       let n = length t in
       let (es, shows) = shown M proper k m t p u h in
-      let r = events.after k n m (M .home n) t es in
+      let r = events.after k n m label (M .home n) t es in
       let e : enough p ≡ suc (mostRest n m) = rw (cells M proper k m t p u h, crew M proper k m t p u h) in
-      let idle = rounds-idle k n m (kinds k (passed M proper k m t p u h .2)) (M .home n) (homes M proper k m t p u h) t
-      (passed M proper k m t p u h .3) es in
+      let idle = rounds-idle k n m (kinds k (passed M proper k m t p u h .2)) label (M .home n) (record { blank = refl; inside = homes M proper k m t p u h }) t
+      (contents .priced n (M .home n) t (passed M proper k m t p u h .3)) es (roomy M proper k m t p u h) in
       rw e (left-few k m t (suc (mostRest n m)) (begun M p u) r
       (record {
         opened = record { from = h; running = up };

@@ -4,8 +4,9 @@ use mathlib.Core.Logic.{_≢_, _↔_}
 use mathlib.Core.Bool.{false}
 use mathlib.Core.List.{List}
 use Prim.Native.Nat.{ℕ}
-use Rattle.layout.specs.Layout.{In}
-use Rattle.activities.specs.Activities.{keyOf}
+use Rattle.prices.specs.Contents.{label}
+use Rattle.phases.specs.Promise.{Sold}
+use Rattle.activities.specs.Activities.{entryOf}
 use Rattle.activities.specs.declared.Activity.the-variants.{Idle}
 use Rattle.state.specs.Model.{Model, Proper}
 use Rattle.state.specs.declared.Phase.{Phase}
@@ -15,7 +16,7 @@ use Rattle.history.proofs.Theorem.{history as all-lists}
 use Rattle.dealing.specs.Reached.{Reached}
 use Rattle.dealing.specs.Deal.{Dealing, begun, enough, run}
 use Rattle.dealing.specs.Promise.{finishOf, Runs, RunPromise}
-use Rattle.dealing.specs.declared.Ended.the-variants.{Yes}
+use Rattle.dealing.specs.declared.Ended.the-variants.{Price}
 use Rattle.dealing.proofs.Answers.{Ends}
 use Rattle.dealing.proofs.Finishes.{run-stands, ends-finished, ends-answered, ends-right, finish-right, none-says}
 use Rattle.dealing.proofs.Reached.{kind}
@@ -31,7 +32,7 @@ run-promise M proper p u h up =
     let free : (w : ℕ) → doing (d .dealt .phase) w ≡ Idle = all-idle-says (d .dealt .phase .workers) .0 rest in
     let is = kind M proper k (h .crew) t p u (h .by) in
     let s = run-stands M proper k (h .crew) t p u (h .by) up in
-    let ends : (w : ℕ) → doing p w ≢ Idle → Ends k t (keyOf (doing p w)) (finishOf d w) = λ w. finish-right k t _ _ _ (free w) (s .each w) in
+    let ends : (w : ℕ) → doing p w ≢ Idle → Ends k t (entryOf (doing p w)) (finishOf d w) = λ w. finish-right k t _ _ _ (free w) (s .each w) in
     let (r, turns) = laps-agree M proper (enough p) (begun M p u) (p .crew) refl in
     record {
       idle = free;
@@ -39,9 +40,9 @@ run-promise M proper p u h up =
       none = λ w. none-says k t _ _ _ (free w) (s .each w);
       finished = λ w b ne. ends-finished k t _ _ (ends w b) (λ z. ne (is ∙ z));
       answered = λ w b find. ends-answered k t _ _ (ends w b) (sym is ∙ find);
-      right = λ w b find.
+      right = λ w b find q.
           let same = all-lists M proper k (h .crew) t (h .by .accepted) (h .by .calls) .unchanged (sym is ∙ find) in
-          subst (λ x. (finishOf d w ≡ Yes) ↔ In (keyOf (doing p w)) x) (sym (h .by .table ∙ same)) (ends-right k t _ _ (ends w b) (sym is ∙ find));
+          subst (λ x. (finishOf d w ≡ Price q) ↔ Sold label x (label (entryOf (doing p w))) q) (sym (h .by .table ∙ same)) (ends-right k t _ _ (ends w b) (sym is ∙ find) q);
       places = s .places;
       dealt = (r, λ x a b. turns x (sym a, sym b));
       reached = run-reached M proper p u h up;

@@ -4,7 +4,7 @@ use mathlib.Core.List.{List}
 use Prim.Native.Nat.{ℕ, zero, suc}
 use lib.ListN.{getD, set, replicate}
 use Rattle.rule.specs.declared.Answer.{Answer}
-use Rattle.rule.specs.declared.Answer.the-variants.{WentOn, Finished, Yes, No}
+use Rattle.rule.specs.declared.Answer.the-variants.{WentOn, Finished, Price, No}
 use Rattle.rule.specs.declared.Answer.the-variants as answer
 use Rattle.phases.specs.Promise.{mostRest}
 use Rattle.state.specs.Model.{Model}
@@ -25,7 +25,7 @@ unfinished = record { ended = Ended.Nothing }
 abbrev pub finishBy : Finish → Answer → Finish
 finishBy f WentOn = f
 finishBy f Finished = record { ended = Ended.Finished }
-finishBy f Yes = record { ended = Ended.Yes }
+finishBy f (Price q) = record { ended = Ended.Price q }
 finishBy f No = record { ended = Ended.No }
 finishBy f answer.Idle = f
 

@@ -5,13 +5,18 @@ use mathlib.Core.Bool.{true, false}
 use mathlib.Core.List.{List, [], _∷_}
 use Prim.Native.Nat.{ℕ, zero, suc}
 use lib.ListN.{length, getD}
-use Rattle.layout.specs.Layout.{In}
-use Rattle.activities.specs.Activities.{keyOf}
+use Rattle.prices.specs.Contents.{label}
+use Rattle.activities.specs.Activities.{entryOf}
 use Rattle.activities.specs.declared.Activity.the-variants.{Idle}
+use Rattle.rule.specs.declared.Answer.{Answer}
+use Rattle.rule.specs.declared.Answer.the-variants.{Price, No}
+use Rattle.phases.specs.Promise.{Sold}
 use Rattle.state.specs.Model.{Model, Proper}
 use Rattle.state.specs.declared.Phase.{Phase}
 use Rattle.protocol.specs.Bars.{doing, allIdle}
+use Rattle.protocol.specs.Calls.{turnCall}
 use Rattle.protocol.specs.Promise.{Framed}
+use Rattle.protocol.specs.declared.TurnReply.the-variants.{Answered}
 use Rattle.history.specs.History as history
 use Rattle.history.specs.History.{Call, turn, History}
 use Rattle.dealing.specs.Reached.{Reached}
@@ -38,10 +43,10 @@ pub record Runs (M : Model) (p : Phase) (t : List ℕ) (d : Dealing) : Type 0 wh
   pub all-idle : allIdle (d .dealt .phase .workers) ≡ true
   -- one field per worker: `-` (nothing) exactly if idle before
   pub none : (w : ℕ) → (finishOf d w ≡ Ended.Nothing) ↔ (doing p w ≡ Idle)
-  -- else its finish: finished; in a find phase yes or no, and yes exactly if its key is in the table
+  -- else its finish: finished; in a find phase a price or no, and a price exactly if its key stands in the table at that price
   pub finished : (w : ℕ) → doing p w ≢ Idle → p .kind ≢ 3 → finishOf d w ≡ Ended.Finished
-  pub answered : (w : ℕ) → doing p w ≢ Idle → p .kind ≡ 3 → (finishOf d w ≡ Ended.Yes) ⊎ (finishOf d w ≡ Ended.No)
-  pub right : (w : ℕ) → doing p w ≢ Idle → p .kind ≡ 3 → (finishOf d w ≡ Ended.Yes) ↔ In (keyOf (doing p w)) t
+  pub answered : (w : ℕ) → doing p w ≢ Idle → p .kind ≡ 3 → ((q : ℕ) × (finishOf d w ≡ Ended.Price q)) ⊎ (finishOf d w ≡ Ended.No)
+  pub right : (w : ℕ) → doing p w ≢ Idle → p .kind ≡ 3 → (q : ℕ) → (finishOf d w ≡ Ended.Price q) ↔ Sold label t (label (entryOf (doing p w))) q
   pub places : length (d .dealt .finishes) ≡ M .room
   -- by turns alone, in rounds of all workers
   pub dealt : (r : ℕ) × ((s : History) → s .phase ≡ p → s .table ≡ t
@@ -56,6 +61,16 @@ pub record Runs (M : Model) (p : Phase) (t : List ℕ) (d : Dealing) : Type 0 wh
 -- from an open phase that calls have led to
 abbrev pub RunPromise : Type 0
 RunPromise = (M : Model) → Proper M → (p : Phase) (t : List ℕ) → Reached M p t → p .shut ≡ false → Runs M p t (run M p t)
+
+-- ---- one turn, from an open phase that calls have led to: a find that answers a price has found its key in the table at that price, and one that answers
+-- no has found that it stands there at none
+pub record Tells (p : Phase) (t : List ℕ) (w : ℕ) (a : Answer) : Type 0 where
+  pub price : (q : ℕ) → a ≡ Price q → Sold label t (label (entryOf (doing p w))) q
+  pub none : a ≡ No → (q : ℕ) → Sold label t (label (entryOf (doing p w))) q → ⊥
+
+abbrev pub TellsPromise : Type 0
+TellsPromise = (M : Model) → Proper M → (p : Phase) (t : List ℕ) → Reached M p t → p .shut ≡ false → (w : ℕ) (a : Answer)
+    → turnCall M p t w .reply ≡ Answered a → Tells p t w a
 
 -- ---- a lap is one turn call of each worker, 0, 1 and so on. (What a run leaves does not show in which order its turns were dealt.)
 abbrev pub LapPromise : Type 0

@@ -3,19 +3,21 @@ use protocol::TurnReply;
 use rule::Answer;
 use state::Phase;
 ghost use mathlib.Core.Path.{_≡_};
-ghost use mathlib.Core.Bool.{false};
+ghost use mathlib.Core.Bool.{true, false};
 ghost use lib.ListN.{replicate};
 ghost use Rattle.state.specs.Model.{gateway};
 ghost use Rattle.dealing.specs.Reached.{Reached};
 ghost use Rattle.dealing.specs.Deal;
 ghost use Rattle.dealing.specs.Deal.{Dealing, unfinished, finishAfter};
+ghost use Rattle.dealing.specs.declared.Finish.{Finish};
 ghost use Rattle.dealing.specs.Promise.{Runs};
 
 // How an operation ended.
 pub enum Ended {
     Nothing,
     Finished,
-    Yes,
+    // A look-up, with the price that it found.
+    Price(u32),
     No,
 }
 
@@ -50,16 +52,34 @@ fn finish_after(before: Finish, reply: TurnReply) -> Finish
         Answer::Finished => Finish {
             ended: Ended::Finished,
         },
-        Answer::Yes => Finish { ended: Ended::Yes },
+        Answer::Price(price) => Finish {
+            ended: Ended::Price(price),
+        },
         Answer::No => Finish { ended: Ended::No },
         Answer::Idle => before,
+    }
+}
+
+// Whether this reply leaves it as it was.
+fn is_kept(reply: TurnReply) -> bool
+    ensures { λ r. ⌜ (r ≡ true → (f : Finish) → finishAfter f reply ≡ f) ⌝ }
+{
+    let TurnReply::Answered(answer) = reply else {
+        return true;
+    };
+    match answer {
+        Answer::WentOn => true,
+        Answer::Finished => false,
+        Answer::Price(..) => false,
+        Answer::No => false,
+        Answer::Idle => true,
     }
 }
 
 // Turns in an open phase until all workers are idle. The record is not tested: calls have led to it. A worker that is idle is passed over: its
 // turn would change nothing. One function with both loops, so that the phase is not copied for each lap. The result is the definition's, and what is
 // promised of every run holds of it: all are idle, and each worker's finish is right.
-pub fn run(mut phase: Phase, cells: &mut [u32]) -> Dealt
+pub fn run(mut phase: Phase, cells: &mut [u64]) -> Dealt
     requires { ⌜ Reached gateway phase (now cells) × (phase .shut ≡ false) ⌝ }
     ensures is_run { λ r. ⌜ _≡_ {A = Dealing} (record { dealt = r; table = now (cells .exit) }) (Deal.run gateway phase (now (cells .entry))) ⌝ }
     ensures promise { λ r. ⌜ Runs gateway phase (now (cells .entry)) (record { dealt = r; table = now (cells .exit) }) ⌝ }
@@ -79,11 +99,29 @@ pub fn run(mut phase: Phase, cells: &mut [u32]) -> Dealt
                 w += 1;
                 continue;
             }
-            let moved = calls::one_turn(phase.kind, phase.length, cells, worker);
+            if phase.kind == 3 {
+                let found = calls::one_find(phase.length, cells, phase.workers[w]);
+                let read = found.worker;
+                let told = found.reply;
+                phase.workers[w] = read;
+                if is_kept(told) {
+                    w += 1;
+                    continue;
+                }
+                let so_far = finishes[w];
+                finishes[w] = finish_after(so_far, told);
+                w += 1;
+                continue;
+            }
+            let moved = calls::one_turn(phase.kind, phase.length, cells, phase.workers[w]);
             let next = moved.worker;
             let reply = moved.reply;
-            let before = finishes[w];
             phase.workers[w] = next;
+            if is_kept(reply) {
+                w += 1;
+                continue;
+            }
+            let before = finishes[w];
             finishes[w] = finish_after(before, reply);
             w += 1;
         }

@@ -26,8 +26,7 @@ use Rattle.phases.proofs.Events.{run-paid}
 use Rattle.phases.proofs.Rounds.{steps-ordered}
 use Rattle.phases.proofs.Steps.{cellOf, moved}
 use Rattle.delete.proofs.Cases.{narrow-by, reading-by, walking-back-by, seeking-forward-by, seeking-back-by, replacing-by}
-use Rattle.delete.proofs.Charges.{level, level-pos, level-top, level-step, aim-le, aim-at, aim-skip, by-stale, stale-here, charge, narrow-charge}
-use Rattle.delete.proofs.Charges.{charge-set, lost-no, lost-yes, countdown, narrow-countdown}
+use Rattle.delete.proofs.Charges.{level, level-pos, level-top, level-step, aim-le, aim-at, aim-skip, by-stale, stale-here, charge, narrow-charge, charge-set, lost-no, lost-yes, countdown, narrow-countdown}
 use Rattle.delete.proofs.Depth.{release-depth, replaced-doomed, empties-depth, by-replace}
 use Rattle.delete.proofs.Doomed.{doom}
 use Rattle.delete.proofs.Ends.{setting}
@@ -35,10 +34,10 @@ use Rattle.delete.proofs.Invariant.{On, Candidate, Shape, Invariant}
 use Rattle.delete.proofs.Kept.{reads, past-home, not-gap}
 use Rattle.delete.proofs.Potential.{price, price-most, potential, doomed-most, potential-rest, countdown-lowers, spread-lowers, charges-lower, potential-most, order-raises}
 use Rattle.delete.proofs.Runs.{Fair, order-fair, step-fair, opening-fair}
-use Rattle.delete.proofs.Setting.{Setting}
+use Rattle.delete.proofs.Setting.{Setting, plain}
 use Rattle.delete.proofs.Steps.{released, turns-back as turns-back-keeps, empties as empties-keeps, replaces as replaces-keeps}
 
-narrow-reads : (n : ℕ) (home : ℕ → ℕ) (v k j x p : ℕ) → 0 ≡ reads (narrow n home v k j x p)
+narrow-reads : (n : ℕ) (home : ℕ → ℕ) (v k j x p : ℕ) → 0 ≡ reads (narrow n plain home v k j x p)
 narrow-reads n home v k j x p = narrow-by n home (λ b. 0 ≡ reads b) v k j x p (λ _. refl) (λ _. refl)
 
 module _ (f : Setting) where
@@ -94,12 +93,12 @@ module _ (f : Setting) where
 
     module _ (u k : ℕ) where
       finds : (j : ℕ) → getD ws w Idle ≡ SeekingForward u k j → j < n → pos k < pos j
-          → Pays (SeekingForward u k j) j (goes (narrow n home u k j (getD t j 0) (prev n j)) (getD t j 0))
+          → Pays (SeekingForward u k j) j (goes (narrow n plain home u k j (getD t j 0) (prev n j)) (getD t j 0))
       finds j is jn l =
           let less = line .before j jn (omega arith) in
           omega (
             arith,
-            goes-on (SeekingForward u k j) (narrow n home u k j (getD t j 0) (prev n j)) j is (narrow-reads n home u k j (getD t j 0) (prev n j))
+            goes-on (SeekingForward u k j) (narrow n plain home u k j (getD t j 0) (prev n j)) j is (narrow-reads n home u k j (getD t j 0) (prev n j))
                 (omega (arith, narrow-charge f d t u k j (getD t j 0) (prev n j), stale-here f d t k j))
                 (omega (arith, narrow-countdown f t u k j (getD t j 0) (prev n j), line .low j jn)),
           )
@@ -110,23 +109,23 @@ module _ (f : Setting) where
           let further = line .after j jn (not-gap f t ws D R inv j nz) in
           omega (arith, goes-on (SeekingForward u k j) (SeekingForward u k (next n j)) j is refl (omega arith) (omega (arith, line .low j jn)))
 
-      module _ (j x p : ℕ) (is : getD ws w Idle ≡ SeekingBack u k j x p) (pn : p < n) (l : pos k < pos p) where
-        finds-nearer : Pays (SeekingBack u k j x p) p (goes (narrow n home u k p (getD t p 0) (prev n p)) (getD t p 0))
+      module _ (j x p : ℕ) (is : getD ws w Idle ≡ SeekingBack p u k j x) (pn : p < n) (l : pos k < pos p) where
+        finds-nearer : Pays (SeekingBack p u k j x) p (goes (narrow n plain home u k p (getD t p 0) (prev n p)) (getD t p 0))
         finds-nearer =
             let less = line .before p pn (omega arith) in
             omega (
               arith,
-              goes-on (SeekingBack u k j x p) (narrow n home u k p (getD t p 0) (prev n p)) p is (narrow-reads n home u k p (getD t p 0) (prev n p))
+              goes-on (SeekingBack p u k j x) (narrow n plain home u k p (getD t p 0) (prev n p)) p is (narrow-reads n home u k p (getD t p 0) (prev n p))
                   (omega (arith, narrow-charge f d t u k p (getD t p 0) (prev n p), stale-here f d t k p))
                   (omega (arith, narrow-countdown f t u k p (getD t p 0) (prev n p))),
             )
 
-        passes-over : Pays (SeekingBack u k j x p) p (goes (narrow n home u k j x (prev n p)) (getD t p 0))
+        passes-over : Pays (SeekingBack p u k j x) p (goes (narrow n plain home u k j x (prev n p)) (getD t p 0))
         passes-over =
             let less = line .before p pn (omega arith) in
             omega (
               arith,
-              goes-on (SeekingBack u k j x p) (narrow n home u k j x (prev n p)) p is (narrow-reads n home u k j x (prev n p))
+              goes-on (SeekingBack p u k j x) (narrow n plain home u k j x (prev n p)) p is (narrow-reads n home u k j x (prev n p))
                   (omega (arith, narrow-charge f d t u k j x (prev n p))) (omega (arith, narrow-countdown f t u k j x (prev n p))),
             )
 
@@ -183,7 +182,7 @@ module _ (f : Setting) where
       fails : (getD t k 0 ≡ u → ⊥) → Pays (Replacing u k j x) k (goes (WalkingBack u k) (getD t k 0))
       fails ne = omega (arith, goes-on (Replacing u k j x) (WalkingBack u k) k is refl (omega arith) (omega (arith, lost-yes f t u k ne, line .low k (o .inside))))
 
-    step-case : (a : Activity) → getD ws w Idle ≡ a → Shape f t D R a → Pays a (cellOf a) (rule 2 n home a (getD t (cellOf a) 0))
+    step-case : (a : Activity) → getD ws w Idle ≡ a → Shape f t D R a → Pays a (cellOf a) (rule 2 n plain home a (getD t (cellOf a) 0))
     unfolding rule deleteStep
     step-case Idle is s =
         rw (set-getD t 0 0) (omega (arith, ap (λ (v : List Activity). potential f t v R) (ap (set ws w) (sym is) ∙ set-getD ws w Idle)))
@@ -193,8 +192,8 @@ module _ (f : Setting) where
     step-case (SeekingForward u k j) is (o, jn, l) =
         seeking-forward-by n home (Pays (SeekingForward u k j) j) u k j (getD t j 0)
         (λ _. finds u k j is jn l) (λ _. finds u k j is jn l) (seeks-on u k j is jn)
-    step-case (SeekingBack u k j x p) is (o, l, c) =
-        seeking-back-by n home (Pays (SeekingBack u k j x p) p) u k j x p (getD t p 0)
+    step-case (SeekingBack p u k j x) is (o, l, c) =
+        seeking-back-by n home (Pays (SeekingBack p u k j x) p) u k j x p (getD t p 0)
         (λ _. finds-nearer u k j x p is (c .searched) l) (λ _. finds-nearer u k j x p is (c .searched) l)
         (λ _ _. passes-over u k j x p is (c .searched) l)
     step-case (Replacing u k j x) is (o, c) =
@@ -205,39 +204,39 @@ module _ (f : Setting) where
   height s h = potential f (s .table) (s .workers) (h .0)
 
   order-pays : (s : Run) (w v : ℕ) (h : Fair f s) (wl : w < length (s .workers)) (is : worker s w ≡ Idle) (l : 0 < v)
-      → height (ordered 2 n home s w v) (order-fair f s w v h wl is l) ≤ height s h + price n W
+      → height (ordered 2 n plain home s w v) (order-fair f s w v h wl is l) ≤ height s h + price n W
   unfolding ordered order-fair
   order-pays s w v (R, inv) wl is l =
       order-raises f (s .table) (s .workers) (s .ordered) R inv w (omega (arith, inv .crew)) Idle (Reading v (home v)) is refl refl refl refl (omega arith)
 
   step-pays : (s : Run) (w : ℕ) (h : Fair f s) (wl : w < length (s .workers))
-      → busy (worker s w) + height (moved 2 n home s w) (step-fair f s w h wl) ≤ height s h
+      → busy (worker s w) + height (moved 2 n plain home s w) (step-fair f s w h wl) ≤ height s h
   unfolding moved step-fair
   step-pays s w (R, inv) wl = step-case (s .table) (s .workers) (s .ordered) R inv w (omega (arith, inv .crew)) (worker s w) refl (inv .shape w)
 
   -- ---- a list of events, and a list of steps alone
   steps-paid : (es : List Event) (s : Run) (h : Fair f s)
-      → run 2 n home es s .counted + length (s .ordered) * price n W ≤ s .counted + height s h + length (run 2 n home es s .ordered) * price n W
-  steps-paid es s h = run-paid 2 n home (Fair f) (λ _. Unit {0}) height (price n W) (λ _ _ _ z. z)
-      (λ r w v g l is nz _. (order-fair f r w v g l is nz, order-pays r w v g l is nz)) (λ r w g l. (step-fair f r w g l, λ _. step-pays r w g l))
+      → run 2 n plain home es s .counted + length (s .ordered) * price n W ≤ s .counted + height s h + length (run 2 n plain home es s .ordered) * price n W
+  steps-paid es s h = run-paid 2 n plain home (Fair f) (λ _. Unit {0}) height (price n W) (λ _ _ _ z. z)
+      (λ r w v g l is nz. (order-fair f r w v g l is nz, order-pays r w v g l is nz)) (λ r w g l. (step-fair f r w g l, λ _. step-pays r w g l))
       s h es tt
 
-  pub steps-settle : (ws : List ℕ) (s : Run) → Fair f s → run 2 n home (stepsOf ws) s .counted ≤ s .counted + mostRest n W
+  pub steps-settle : (ws : List ℕ) (s : Run) → Fair f s → run 2 n plain home (stepsOf ws) s .counted ≤ s .counted + mostRest n W
   steps-settle ws s (R, inv) =
       omega (
         arith,
         steps-paid (stepsOf ws) s (R, inv),
-        ap (λ (l : List ℕ). length l * price n W) (steps-ordered 2 n home ws s),
+        ap (λ (l : List ℕ). length l * price n W) (steps-ordered 2 n plain home ws s),
         potential-most f (s .table) (s .workers) (s .ordered) R inv,
         price-most n W (2 * W + 1),
       )
 
 -- ---- from the opening on: n cells, W workers, and as many accepted operations as keys were ordered
 pub steps-bounded : (n W : ℕ) (home : ℕ → ℕ) → ((x : ℕ) → home x < n) → (t : List ℕ) → Sound n home t → (es : List Event)
-    → after 2 n W home t es .counted < mostSteps n W (length (after 2 n W home t es .ordered))
+    → after 2 n W plain home t es .counted < mostSteps n W (length (after 2 n W plain home t es .ordered))
 steps-bounded n W home hb t sound es =
     let f = setting n W home hb t sound in
     let h = opening-fair n W home hb t sound in
-    let p = steps-paid f es (opened 2 W t) h in
+    let p = steps-paid f es (opened W t) h in
     let z = potential-rest f t (replicate W Idle) [] (h .0) (h .1) (crew-idle W) in
-    omega (arith, price-most n W (length (after 2 n W home t es .ordered)))
+    omega (arith, price-most n W (length (after 2 n W plain home t es .ordered)))

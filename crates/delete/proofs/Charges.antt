@@ -18,7 +18,7 @@ use Rattle.activities.specs.declared.Activity.the-variants.{Idle, Reading, Repl
 use Rattle.rule.specs.Rule.{narrow}
 use Rattle.delete.proofs.Cases.{narrow-by}
 use Rattle.delete.proofs.Invariant.{Shape}
-use Rattle.delete.proofs.Setting.{Setting}
+use Rattle.delete.proofs.Setting.{Setting, plain}
 
 -- ---- powers of W + 1
 unfoldable pub power : ℕ → ℕ → ℕ
@@ -168,10 +168,10 @@ module _ (f : Setting) where
     charge t (Reading v i) = power W W
     charge t (WalkingBack v k) = power W W - aim v (pos k) t
     charge t (SeekingForward v k j) = power W W - aim v (pos k) t
-    charge t (SeekingBack v k j x p) = (power W W - aim v (pos k) t) + stale t k j x
+    charge t (SeekingBack p v k j x) = (power W W - aim v (pos k) t) + stale t k j x
     charge t (Replacing v k j x) = (power W W - aim v (pos k) t) + stale t k j x
 
-    pub narrow-charge : (t : List ℕ) (v k j x p : ℕ) → charge t (narrow n home v k j x p) ≡ (power W W - aim v (pos k) t) + stale t k j x
+    pub narrow-charge : (t : List ℕ) (v k j x p : ℕ) → charge t (narrow n plain home v k j x p) ≡ (power W W - aim v (pos k) t) + stale t k j x
     narrow-charge t v k j x p = narrow-by n home (λ b. charge t b ≡ (power W W - aim v (pos k) t) + stale t k j x) v k j x p (λ _. refl) (λ _. refl)
 
     -- no charge is greater than this
@@ -184,7 +184,7 @@ module _ (f : Setting) where
       charge-le (Reading v c) = omega (arith, power-step W W (suc W) (omega arith))
       charge-le (WalkingBack v k) = omega (arith, power-step W W (suc W) (omega arith))
       charge-le (SeekingForward v k j) = omega (arith, power-step W W (suc W) (omega arith))
-      charge-le (SeekingBack v k j x p) = candidate-le v k j x
+      charge-le (SeekingBack p v k j x) = candidate-le v k j x
       charge-le (Replacing v k j x) = candidate-le v k j x
 
     -- a write to a doomed cell i raises any charge by its worth at most: a worker at i or later may lose its aim there, one before i its candidate
@@ -200,7 +200,7 @@ module _ (f : Setting) where
       charge-set D R (Reading v c) s = omega arith
       charge-set D R (WalkingBack v k) s = omega (arith, aim-set v (pos k) t i y)
       charge-set D R (SeekingForward v k j) s = omega (arith, aim-set v (pos k) t i y)
-      charge-set D R (SeekingBack v k j x p) (o, l, c) = candidate-set v k j x (omega (arith, c .low, c .high))
+      charge-set D R (SeekingBack p v k j x) (o, l, c) = candidate-set v k j x (omega (arith, c .low, c .high))
       charge-set D R (Replacing v k j x) (o, c) = candidate-set v k j x (c .high)
 
   -- ---- a worker's steps to its next success, or to its finish, at most; more if cell k has lost the key v
@@ -223,10 +223,10 @@ module _ (f : Setting) where
   countdown t (Reading v i) = (n - pos i) + (3 * n + 1)
   countdown t (WalkingBack v k) = 2 * n + 1 + pos k
   countdown t (SeekingForward v k j) = (2 * n - pos j) + lost t v k
-  countdown t (SeekingBack v k j x p) = (pos p - pos k) + 1 + lost t v k
+  countdown t (SeekingBack p v k j x) = (pos p - pos k) + 1 + lost t v k
   countdown t (Replacing v k j x) = 1 + lost t v k
 
-  pub narrow-countdown : (t : List ℕ) (v k j x p : ℕ) → countdown t (narrow n home v k j x p) ≤ (pos p - pos k) + 1 + lost t v k
+  pub narrow-countdown : (t : List ℕ) (v k j x p : ℕ) → countdown t (narrow n plain home v k j x p) ≤ (pos p - pos k) + 1 + lost t v k
   narrow-countdown t v k j x p = narrow-by n home (λ b. countdown t b ≤ (pos p - pos k) + 1 + lost t v k) v k j x p (λ _. omega arith) (λ _. omega arith)
 
   module _ (t D R : List ℕ) where
@@ -235,5 +235,5 @@ module _ (f : Setting) where
     countdown-le u (Reading v i) (o, _) = omega arith
     countdown-le u (WalkingBack v k) o = omega (arith, line .low k (o .inside))
     countdown-le u (SeekingForward v k j) (o, _, _) = omega (arith, lost-le u v k)
-    countdown-le u (SeekingBack v k j x p) (o, _, c) = omega (arith, lost-le u v k, line .low p (c .searched))
+    countdown-le u (SeekingBack p v k j x) (o, _, c) = omega (arith, lost-le u v k, line .low p (c .searched))
     countdown-le u (Replacing v k j x) (o, c) = omega (arith, lost-le u v k)

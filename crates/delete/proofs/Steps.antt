@@ -17,17 +17,17 @@ use Rattle.activities.specs.declared.Activity.the-variants.{Idle, Reading, Repl
 use Rattle.rule.specs.declared.Answer.the-variants.{Finished}
 use Rattle.rule.specs.declared.Outcome.{Outcome}
 use Rattle.rule.specs.Rule.{goes, ends, narrow, deleteStep, rule}
-use Rattle.activities.specs.Activities.{keyOf}
+use Rattle.activities.specs.Activities.{entryOf}
 use Rattle.phases.proofs.Steps.{cellOf}
 use Rattle.delete.proofs.Cases.{narrow-by, reading-by, walking-back-by, seeking-forward-by, seeking-back-by, replacing-by}
 use Rattle.delete.proofs.Copies.{copies-skip, weight, from-hit}
 use Rattle.delete.proofs.Invariant.{On, Candidate, Shape, Invariant}
 use Rattle.delete.proofs.Kept.{past-home, not-gap, reads, reader-set, reader-stays, reader-new, stay-keeps, release-keeps, leave-keeps, replace-keeps}
-use Rattle.delete.proofs.Setting.{Setting}
+use Rattle.delete.proofs.Setting.{Setting, plain}
 
 -- the released keys after a worker's activity a became b: a reading worker that turns back releases its key
 abbrev pub released : Activity → Activity → List ℕ → List ℕ
-released a b R = cond (eqb (reads a) 1) (cond (eqb (reads b) 1) R (keyOf a ∷ R)) R
+released a b R = cond (eqb (reads a) 1) (cond (eqb (reads b) 1) R (entryOf a ∷ R)) R
 
 -- the invariant after worker w has touched cell i with outcome o, for the released keys Q
 abbrev pub After : Setting → List ℕ → List Activity → List ℕ → ℕ → ℕ → List ℕ → Outcome → Type 0
@@ -105,11 +105,11 @@ module _ (f : Setting) (t : List ℕ) (ws : List Activity) (D R : List ℕ) (inv
 
   -- ---- seeking
   module _ (u k : ℕ) (o : On f u k) where
-    narrowed : (j x p : ℕ) → Candidate f t R k j x p → Shape f t D R (narrow n home u k j x p)
+    narrowed : (j x p : ℕ) → Candidate f t R k j x p → Shape f t D R (narrow n plain home u k j x p)
     narrowed j x p c = narrow-by n home (Shape f t D R) u k j x p (λ z. (o, rw z at c))
         (λ z. (o, by-eq (pos p) (pos k) (λ y. absurd (z (line .same p k (c .searched) (o .inside) y))) (λ y. omega (arith, c .low)), c))
 
-    narrow-weight : (j x p v q : ℕ) → from v q (pos k) u ≡ weight f v q (narrow n home u k j x p)
+    narrow-weight : (j x p v q : ℕ) → from v q (pos k) u ≡ weight f v q (narrow n plain home u k j x p)
     narrow-weight j x p v q = narrow-by n home (λ b. from v q (pos k) u ≡ weight f v q b) u k j x p (λ _. refl) (λ _. refl)
 
     -- cell j is empty, or the path of its key passes k: it is the candidate, and the cell before it comes next
@@ -150,9 +150,9 @@ module _ (f : Setting) (t : List ℕ) (ws : List Activity) (D R : List ℕ) (inv
           }
 
       module _ (is : getD ws w Idle ≡ SeekingForward u k j) where
-        finds : (getD t j 0 ≢ 0 → pos (home (getD t j 0)) ≤ pos k) → Next j (goes (narrow n home u k j (getD t j 0) (prev n j)) (getD t j 0))
+        finds : (getD t j 0 ≢ 0 → pos (home (getD t j 0)) ≤ pos k) → Next j (goes (narrow n plain home u k j (getD t j 0) (prev n j)) (getD t j 0))
         finds fit =
-            stays-on (SeekingForward u k j) (narrow n home u k j (getD t j 0) (prev n j)) j is (narrow-weight j (getD t j 0) (prev n j)) refl
+            stays-on (SeekingForward u k j) (narrow n plain home u k j (getD t j 0) (prev n j)) j is (narrow-weight j (getD t j 0) (prev n j)) refl
             (narrowed j (getD t j 0) (prev n j) (candidate fit))
 
         seeks-on : getD t j 0 ≢ 0 → Next j (goes (SeekingForward u k (next n j)) (getD t j 0))
@@ -160,16 +160,16 @@ module _ (f : Setting) (t : List ℕ) (ws : List Activity) (D R : List ℕ) (inv
             stays-on (SeekingForward u k j) (SeekingForward u k (next n j)) j is (λ _ _. refl) refl
             (o, line .next-in j jn, omega (arith, line .after j jn (not-gap f t ws D R inv j nz)))
 
-      module _ (m x : ℕ) (is : getD ws w Idle ≡ SeekingBack u k m x j) where
-        finds-nearer : (getD t j 0 ≢ 0 → pos (home (getD t j 0)) ≤ pos k) → Next j (goes (narrow n home u k j (getD t j 0) (prev n j)) (getD t j 0))
+      module _ (m x : ℕ) (is : getD ws w Idle ≡ SeekingBack j u k m x) where
+        finds-nearer : (getD t j 0 ≢ 0 → pos (home (getD t j 0)) ≤ pos k) → Next j (goes (narrow n plain home u k j (getD t j 0) (prev n j)) (getD t j 0))
         finds-nearer fit =
-            stays-on (SeekingBack u k m x j) (narrow n home u k j (getD t j 0) (prev n j)) j is (narrow-weight j (getD t j 0) (prev n j)) refl
+            stays-on (SeekingBack j u k m x) (narrow n plain home u k j (getD t j 0) (prev n j)) j is (narrow-weight j (getD t j 0) (prev n j)) refl
             (narrowed j (getD t j 0) (prev n j) (candidate fit))
 
         passes-over : Candidate f t R k m x j → dist n (home (getD t j 0)) j ≤ dist n (home (getD t j 0)) k
-            → Next j (goes (narrow n home u k m x (prev n j)) (getD t j 0))
+            → Next j (goes (narrow n plain home u k m x (prev n j)) (getD t j 0))
         passes-over c unfit =
-            stays-on (SeekingBack u k m x j) (narrow n home u k m x (prev n j)) j is (narrow-weight m x (prev n j)) refl
+            stays-on (SeekingBack j u k m x) (narrow n plain home u k m x (prev n j)) j is (narrow-weight m x (prev n j)) refl
             (narrowed m x (prev n j) (passed-over m x c unfit))
 
   -- ---- replacing
@@ -186,7 +186,7 @@ module _ (f : Setting) (t : List ℕ) (ws : List Activity) (D R : List ℕ) (inv
     fails = stays-on (Replacing u k j x) (WalkingBack u k) k is (λ _ _. refl) refl o
 
   -- ---- any step
-  step-case : (a : Activity) → getD ws w Idle ≡ a → Shape f t D R a → Left a (cellOf a) (rule 2 n home a (getD t (cellOf a) 0))
+  step-case : (a : Activity) → getD ws w Idle ≡ a → Shape f t D R a → Left a (cellOf a) (rule 2 n plain home a (getD t (cellOf a) 0))
   unfolding rule deleteStep
   step-case Idle is s = stays-on Idle Idle 0 is (λ _ _. refl) refl tt
   step-case (Reading u i) is (o, d) = reading-by n home (Left (Reading u i) i) u i (getD t i 0) (reads-on u i is o d) (turns-back u i is o d)
@@ -194,12 +194,12 @@ module _ (f : Setting) (t : List ℕ) (ws : List Activity) (D R : List ℕ) (inv
       walking-back-by n home (Left (WalkingBack u k) k) u k (getD t k 0) (starts-seeking u k is o) (finishes u k is o) (steps-back u k is o)
   step-case (SeekingForward u k j) is (o, jn, l) = seeking-forward-by n home (Left (SeekingForward u k j) j) u k j (getD t j 0)
       (λ z. finds u k o j jn l is (λ nz. absurd (nz z))) (λ f. finds u k o j jn l is (by-path u k o j jn l f)) (seeks-on u k o j jn l is)
-  step-case (SeekingBack u k j x p) is (o, l, c) = seeking-back-by n home (Left (SeekingBack u k j x p) p) u k j x p (getD t p 0)
+  step-case (SeekingBack p u k j x) is (o, l, c) = seeking-back-by n home (Left (SeekingBack p u k j x) p) u k j x p (getD t p 0)
       (λ z. finds-nearer u k o p (c .searched) l j x is (λ nz. absurd (nz z)))
       (λ f. finds-nearer u k o p (c .searched) l j x is (by-path u k o p (c .searched) l f))
       (λ _. passes-over u k o p (c .searched) l j x is c)
   step-case (Replacing u k j x) is (o, c) =
       replacing-by n home (Left (Replacing u k j x) k) u k j x (getD t k 0) (empties u k j x is o c) (replaces u k j x is o c) (λ _. fails u k j x is o c)
 
-  pub step-keeps : Left (getD ws w Idle) (cellOf (getD ws w Idle)) (rule 2 n home (getD ws w Idle) (getD t (cellOf (getD ws w Idle)) 0))
+  pub step-keeps : Left (getD ws w Idle) (cellOf (getD ws w Idle)) (rule 2 n plain home (getD ws w Idle) (getD t (cellOf (getD ws w Idle)) 0))
   step-keeps = step-case (getD ws w Idle) refl (inv .shape w)

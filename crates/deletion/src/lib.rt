@@ -1,5 +1,6 @@
 // The steps of a delete.
 use activities::Activity;
+use prices::PRICES;
 use probing::ends;
 use probing::goes;
 use probing::reads_on;
@@ -9,92 +10,101 @@ use rule::Outcome;
 ghost use mathlib.Core.Path.{_≡_};
 ghost use Prim.Native.Nat.{_<_};
 ghost use Rattle.layout.specs.Home.{modulo};
+ghost use Rattle.prices.specs.Contents.{label};
 ghost use Rattle.activities.specs.Activities.{cellsOf, Below};
 ghost use Rattle.rule.specs.Rule;
 ghost use Rattle.rule.specs.Rule.{deleteStep};
 
-// Whether `content`, in cell `at`, may replace the content of `cell`.
-fn fits(length: u32, content: u32, at: u32, cell: u32) -> bool
-    requires { ⌜ (at < length) × (cell < length) ⌝ }
-    ensures { λ r. ⌜ r ≡ Rule.fits length (modulo length) content at cell ⌝ }
+// The home of the key of `entry`.
+fn home(length: u32, entry: u64) -> u32
+    requires { ⌜ 0 < length ⌝ }
+    ensures { λ r. ⌜ r ≡ modulo length (label entry) ⌝ }
 {
-    if content == 0 {
+    geometry::home(length, (entry / PRICES) as u32)
+}
+
+// Whether `content`, in cell `at`, may replace the content of `cell`.
+fn fits(length: u32, content: u64, at: u32, cell: u32) -> bool
+    requires { ⌜ (at < length) × (cell < length) ⌝ }
+    ensures { λ r. ⌜ r ≡ Rule.fits length label (modulo length) content at cell ⌝ }
+{
+    if content / PRICES == 0 {
         return true;
     }
-    let start = geometry::home(length, content);
+    let start = home(length, content);
     geometry::dist(length, start, cell) < geometry::dist(length, start, at)
 }
 
 // With the content of cell `from` taken: on at cell `at`, or, if no cell lies between, about to replace `cell`.
-fn narrow(length: u32, key: u32, cell: u32, from: u32, taken: u32, at: u32) -> Activity
-    ensures { λ r. ⌜ r ≡ Rule.narrow length (modulo length) key cell from taken at ⌝ }
+fn narrow(length: u32, entry: u64, cell: u32, from: u32, taken: u64, at: u32) -> Activity
+    ensures { λ r. ⌜ r ≡ Rule.narrow length label (modulo length) entry cell from taken at ⌝ }
 {
     if at == cell {
         return Activity::Replacing {
-            key,
+            entry,
             cell,
             from,
             content: taken,
         };
     }
     Activity::SeekingBack {
-        key,
+        at,
+        entry,
         cell,
         from,
         content: taken,
-        at,
     }
 }
 
-fn delete_reading(length: u32, key: u32, cell: u32, content: u32) -> Outcome
+fn delete_reading(length: u32, entry: u64, cell: u32, content: u64) -> Outcome
     requires { ⌜ cell < length ⌝ }
-    ensures { λ r. ⌜ r ≡ deleteStep length (modulo length) (Activity.Reading key cell) content ⌝ }
+    ensures { λ r. ⌜ r ≡ deleteStep length label (modulo length) (Activity.Reading entry cell) content ⌝ }
 {
-    if key < content {
-        return reads_on(length, key, cell, content);
+    if entry / PRICES < content / PRICES {
+        return reads_on(length, entry, cell, content);
     }
-    goes(Activity::WalkingBack { key, cell }, content)
+    goes(Activity::WalkingBack { entry, cell }, content)
 }
 
-fn delete_walking_back(length: u32, key: u32, cell: u32, content: u32) -> Outcome
+fn delete_walking_back(length: u32, entry: u64, cell: u32, content: u64) -> Outcome
     requires { ⌜ cell < length ⌝ }
-    ensures { λ r. ⌜ r ≡ deleteStep length (modulo length) (Activity.WalkingBack key cell) content ⌝ }
+    ensures { λ r. ⌜ r ≡ deleteStep length label (modulo length) (Activity.WalkingBack entry cell) content ⌝ }
 {
-    if content == key {
+    if content / PRICES == entry / PRICES {
         return goes(
             Activity::SeekingForward {
-                key,
+                entry: content,
                 cell,
                 at: geometry::next(length, cell),
             },
             content,
         );
     }
-    if cell == geometry::home(length, key) {
+    if cell == home(length, entry) {
         return ends(Answer::Finished, content);
     }
     goes(
         Activity::WalkingBack {
-            key,
+            entry,
             cell: geometry::prev(length, cell),
         },
         content,
     )
 }
 
-fn delete_seeking_forward(length: u32, key: u32, cell: u32, at: u32, content: u32) -> Outcome
+fn delete_seeking_forward(length: u32, entry: u64, cell: u32, at: u32, content: u64) -> Outcome
     requires { ⌜ (cell < length) × (at < length) ⌝ }
-    ensures { λ r. ⌜ r ≡ deleteStep length (modulo length) (Activity.SeekingForward key cell at) content ⌝ }
+    ensures { λ r. ⌜ r ≡ deleteStep length label (modulo length) (Activity.SeekingForward entry cell at) content ⌝ }
 {
     if fits(length, content, at, cell) {
         return goes(
-            narrow(length, key, cell, at, content, geometry::prev(length, at)),
+            narrow(length, entry, cell, at, content, geometry::prev(length, at)),
             content,
         );
     }
     goes(
         Activity::SeekingForward {
-            key,
+            entry,
             cell,
             at: geometry::next(length, at),
         },
@@ -104,80 +114,80 @@ fn delete_seeking_forward(length: u32, key: u32, cell: u32, at: u32, content: u3
 
 fn delete_seeking_back(
     length: u32,
-    key: u32,
+    entry: u64,
     cell: u32,
     from: u32,
-    taken: u32,
+    taken: u64,
     at: u32,
-    content: u32,
+    content: u64,
 ) -> Outcome
     requires { ⌜ (cell < length) × (at < length) ⌝ }
-    ensures { λ r. ⌜ r ≡ deleteStep length (modulo length) (Activity.SeekingBack key cell from taken at) content ⌝ }
+    ensures { λ r. ⌜ r ≡ deleteStep length label (modulo length) (Activity.SeekingBack at entry cell from taken) content ⌝ }
 {
     if fits(length, content, at, cell) {
         return goes(
-            narrow(length, key, cell, at, content, geometry::prev(length, at)),
+            narrow(length, entry, cell, at, content, geometry::prev(length, at)),
             content,
         );
     }
     goes(
-        narrow(length, key, cell, from, taken, geometry::prev(length, at)),
+        narrow(length, entry, cell, from, taken, geometry::prev(length, at)),
         content,
     )
 }
 
 fn delete_replacing(
     length: u32,
-    key: u32,
+    entry: u64,
     cell: u32,
     from: u32,
-    taken: u32,
-    content: u32,
+    taken: u64,
+    content: u64,
 ) -> Outcome
-    ensures { λ r. ⌜ r ≡ deleteStep length (modulo length) (Activity.Replacing key cell from taken) content ⌝ }
+    ensures { λ r. ⌜ r ≡ deleteStep length label (modulo length) (Activity.Replacing entry cell from taken) content ⌝ }
 {
-    if content != key {
-        return goes(Activity::WalkingBack { key, cell }, content);
+    if content != entry {
+        return goes(Activity::WalkingBack { entry, cell }, content);
     }
-    if taken == 0 {
+    if taken / PRICES == 0 {
         return ends(Answer::Finished, 0);
     }
     goes(
         Activity::WalkingBack {
-            key: taken,
+            entry: taken,
             cell: from,
         },
         taken,
     )
 }
 
-pub fn delete_step(length: u32, activity: Activity, content: u32) -> Outcome
+pub fn delete_step(length: u32, activity: Activity, content: u64) -> Outcome
     requires { ⌜ Below length (cellsOf activity) ⌝ }
-    ensures { λ r. ⌜ r ≡ deleteStep length (modulo length) activity content ⌝ }
+    ensures { λ r. ⌜ r ≡ deleteStep length label (modulo length) activity content ⌝ }
 {
     match activity {
         Activity::Idle => unmoved(activity, content),
-        Activity::Reading { key, cell } => delete_reading(length, key, cell, content),
-        Activity::WalkingBack { key, cell } => delete_walking_back(length, key, cell, content),
-        Activity::SeekingForward { key, cell, at } => delete_seeking_forward(
+        Activity::Reading { entry, cell } => delete_reading(length, entry, cell, content),
+        Activity::WalkingBack { entry, cell } => delete_walking_back(length, entry, cell, content),
+        Activity::SeekingForward { entry, cell, at } => delete_seeking_forward(
             length,
-            key,
+            entry,
             cell,
             at,
             content,
         ),
         Activity::SeekingBack {
-            key,
-            cell,
-            from,
-            content: taken,
             at,
-        } => delete_seeking_back(length, key, cell, from, taken, at, content),
-        Activity::Replacing {
-            key,
+            entry,
             cell,
             from,
             content: taken,
-        } => delete_replacing(length, key, cell, from, taken, content),
+        } => delete_seeking_back(length, entry, cell, from, taken, at, content),
+        Activity::Replacing {
+            entry,
+            cell,
+            from,
+            content: taken,
+        } => delete_replacing(length, entry, cell, from, taken, content),
     }
 }

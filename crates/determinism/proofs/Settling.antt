@@ -12,9 +12,9 @@ use Rattle.phases.proofs.Rounds.{rounds-steps, run-crew, rounds-rest}
 use Rattle.determinism.proofs.Theorem.{settles}
 
 pub rounds-idle : RoundsPromise
-rounds-idle k n W kind home hb t sound es =
-    let s = after k n W home t es in
+rounds-idle k n W kind key home rules t sound es few =
+    let s = after k n W key home t es in
     let (ws, e) = rounds-steps W (suc (mostRest n W)) in
     ⊎-elim (λ rest. rest)
-    (λ more. absurd (omega (arith, settles k n W kind home hb t sound es ws, ap (λ (us : List Event). run k n home us s .counted) e)))
-    (rounds-rest k n home W (suc (mostRest n W)) s (run-crew k n home es (opened k W t) ∙ length-replicate W Idle))
+    (λ more. absurd (omega (arith, settles k n W kind key home rules t sound es ws few, ap (λ (us : List Event). run k n key home us s .counted) e)))
+    (rounds-rest k n key home W (suc (mostRest n W)) s (run-crew k n key home es (opened W t) ∙ length-replicate W Idle))

@@ -9,7 +9,7 @@ use lines::Command;
 use lines::Line;
 use lines::Numbers;
 ghost use mathlib.Core.Path.{_≡_};
-ghost use Rattle.fitting.specs.Fitting.{rowWith, rowOf, fitsRow, handlingIn, handled, readingIn, aimOf};
+ghost use Rattle.fitting.specs.Fitting.{rowWith, orderNumbers, rowOf, fitsRow, handlingIn, handled, readingIn, aimOf};
 
 // ---- what a line asks for
 // The table of the commands, in a phase of this kind.
@@ -19,13 +19,25 @@ fn row_of(kind: u32, command: Command) -> Row
     match command {
         Command::Cells => row_with(1, Handling::Performed, Handling::Bad, Single::Neither),
         Command::Open => row_with(2, Handling::Performed, Handling::Bad, Single::Neither),
-        Command::Order => row_with(2, Handling::Barred, Handling::Performed, Single::Order),
+        Command::Order => row_with(
+            order_numbers(kind),
+            Handling::Barred,
+            Handling::Performed,
+            Single::Order,
+        ),
         Command::Turn => row_with(1, Handling::Performed, Handling::Performed, Single::Turn),
         Command::Run => row_with(0, Handling::Refused, Handling::Performed, Single::Neither),
         Command::Close => row_with(0, Handling::Performed, Handling::Performed, Single::Neither),
         Command::List => row_with(0, Handling::Performed, Handling::Performed, Single::Neither),
         Command::Unknown => row_with(0, Handling::Bad, Handling::Bad, Single::Neither),
     }
+}
+
+// How many numbers an order has in a phase of this kind.
+fn order_numbers(kind: u32) -> usize
+    ensures { λ r. ⌜ r ≡ orderNumbers kind ⌝ }
+{
+    if kind == 1 { 3 } else { 2 }
 }
 
 fn row_with(takes: usize, shut: Handling, opened: Handling, single: Single) -> Row
@@ -107,7 +119,7 @@ pub fn aim_of(kind: u32, shut: bool, line: Line, crew: u32) -> Aim
     match single {
         Single::Order => {
             if values[0] < crew {
-                return Aim::Order(values[0], values[1]);
+                return Aim::Order(values[0], values[1], values[2]);
             }
             Aim::Other
         }

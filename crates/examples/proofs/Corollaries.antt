@@ -1,8 +1,8 @@
 -- The corollaries, each by its promise. Premises are computed, conclusions are not.
 use mathlib.Core.Path.{_≡_, refl, sym, ap, _∙_, subst}
-use mathlib.Core.Logic.{_≢_, _↔_, inl, inr, ⊎-elim}
-use mathlib.Core.Bool.{Bool, true, false, _&&_}
-use mathlib.Core.List.{List, [], _∷_}
+use mathlib.Core.Logic.{_≢_, _↔_, inl, inr}
+use mathlib.Core.Bool.{true, false}
+use mathlib.Core.List.{List, [], _∷_, _++_}
 use Prim.Native.Nat.{ℕ, zero, suc, _≤_, _<_}
 use native.Mathlib.Nat.{zero-lt-suc, mod-lt}
 use native.Mathlib.Omega.{arith}
@@ -10,141 +10,151 @@ use lib.Dec.{T, eqb}
 use lib.ListN.{length, getD}
 use Rattle.ring.specs.Counting.{count}
 use Rattle.ring.specs.Ring.{wrap, dist, prev}
-use Rattle.ring.proofs.Split.{by-eq}
 use Rattle.layout.specs.Home.{modulo}
-use Rattle.layout.specs.Layout.{In, into, descending, size, listed, without, layout}
-use Rattle.layout.specs.Sound.{Holds, Sound, vacant, all, some, clear, isSound}
-use Rattle.layout.proofs.Sets.{by-listed, held-in, in-holds}
-use Rattle.layout.proofs.Sound.{isSound-says, isSound-of}
-use Rattle.layout.proofs.Tests.{and-left, and-right}
-use Rattle.layout.proofs.Theorem.{theorem as layouts}
+use Rattle.layout.specs.Layout.{In, into, descending, size, listed}
+use Rattle.layout.specs.Sound.{Holds, vacant, all, some, clear, isSound}
+use Rattle.layout.proofs.Sets.{held-in, in-holds}
+use Rattle.prices.specs.Contents.{label, content, SoundTable, isSoundTable}
+use Rattle.prices.specs.Priced.{labels, lesser, least, Least, SameLeast, PricedSound, pricedLayout, withoutLabels}
+use Rattle.prices.proofs.Contents.{contents}
+use Rattle.prices.proofs.Labels.{in-labels}
+use Rattle.prices.proofs.Theorem.{theorem as layouts}
 use Rattle.words.specs.Promise.{keysBefore}
 use Rattle.words.specs.Words.{placeOf, countOf}
 use Rattle.words.proofs.Places.{count-occupied}
 use Rattle.words.proofs.Theorem.{theorem as listings}
-use Rattle.activities.specs.declared.Activity.the-variants.{Idle, Reading, Replacing, WalkingBack}
-use Rattle.rule.specs.declared.Answer.the-variants.{WentOn, Yes}
+use Rattle.activities.specs.declared.Activity.the-variants.{Idle}
 use Rattle.rule.specs.declared.Place.{Place}
 use Rattle.rule.specs.declared.Place.the-variants.{At}
 use Rattle.rule.specs.Events.{stepped, ordered, accepts, event, AllIdle}
 use Rattle.rule.specs.Events as events
-use Rattle.rule.specs.Rule.{insertStep, findStep, fits, narrow, deleteStep, rule}
-use Rattle.rule.specs.Schedules.{round, steps, noneBusy}
+use Rattle.rule.specs.Rule.{settled, absorbed, insertStep, findStep, fits, narrow, deleteStep, rule}
+use Rattle.rule.specs.Schedules.{one, ones, round, steps, noneBusy}
 use Rattle.rule.specs.Schedules as schedules
 use Rattle.rule.proofs.Schedules.{all-idle}
 use Rattle.determinism.proofs.Theorem.{one-end}
-use Rattle.phases.specs.Promise.{mostSteps}
+use Rattle.phases.specs.Promise.{mostSteps, Sold, Rules, SameOrders}
 use Rattle.state.specs.Model.{gateway}
-use Rattle.state.specs.Open.{openReply, openCall}
+use Rattle.state.specs.Open.{openReply}
 use Rattle.state.specs.Refusals.{replyNumber}
 use Rattle.state.specs.declared.Reply.the-variants.{Accepted}
 use Rattle.state.proofs.Model.{gateway-proper}
 use Rattle.protocol.specs.Bars.{doing}
-use Rattle.protocol.specs.Calls.{turnNumber, withWorker, closeCall, orderCall, turnCheck, turnCall, turnTable}
+use Rattle.protocol.specs.Calls.{turnCheck}
 use Rattle.protocol.specs.IsWellFormed.{isWellFormed}
-use Rattle.protocol.specs.Promise.{Made, opened, ordered as madeByOrder, turned, closed, Resting, Starts, Replaces}
-use Rattle.protocol.specs.Split.{oneTurn, oneTable, SplitTurn, SplitOrder}
-use Rattle.protocol.specs.WellFormed.{Size, WellFormed}
-use Rattle.protocol.specs.declared.Moved.{Moved}
-use Rattle.protocol.specs.declared.TurnReply.the-variants.{Answered}
-use Rattle.protocol.proofs.Keeping.{places, gateway-never-spoilt}
-use Rattle.protocol.proofs.Split.{splits}
-use Rattle.protocol.proofs.Theorem.{well-formed, opens, orders, turns, closes}
+use Rattle.protocol.specs.WellFormed.{Size}
+use Rattle.protocol.proofs.Soundness.{sounds}
 use Rattle.tables.specs.Calls.{countNumber, listCall, listAfter, listFront}
 use Rattle.tables.proofs.Theorem.{theorem as tables}
 use Rattle.history.specs.History.{order, turn, worked, call, run, turnReplies, opening, after}
-use Rattle.history.specs.Promise.{Alike, Claim}
-use Rattle.history.proofs.Theorem.{refused, keeps-table, one-table, two-turns}
+use Rattle.history.specs.Promise.{entriesAfter, Alike, Claim}
+use Rattle.history.proofs.Theorem.{refused, keeps-table, fixed, one-table, two-turns}
 use Rattle.history.proofs.Theorem as histories
-use Rattle.examples.specs.Forms.{emptyCells, worker, callsOf}
+use Rattle.examples.specs.Forms.{emptyCells, callsOf}
 use Rattle.examples.specs.Limits.{twoGroups}
-use Rattle.examples.specs.Examples.{four, sheetPutsIn, looksUp}
+use Rattle.examples.specs.Examples.{four, atPrices, sheetPutsIn, looksUp, anyPrice}
 use Rattle.examples.specs.Corollaries.{turnsOf, rounds, together, inSequence, oneOrdered, twoOrdered, halfPutIn, threePutIn, eventsTogether, eventsInSequence}
-use Rattle.examples.specs.Corollaries.{fewWorkers, manyWorkers, altered, overwritten, justOpened, puttingIn, lookingUp, madeOnOthers, fourKeys, sixPlaces}
-use Rattle.examples.specs.Corollaries.{Corollaries, CallCorollaries}
-
--- ---- one list's numbers are all in another
-unfoldable pub allIn : List ℕ → List ℕ → Bool
-allIn [] ys = true
-allIn (x ∷ xs) ys = listed x ys && allIn xs ys
-
-is-in : (x : ℕ) (ys : List ℕ) → T (listed x ys) → In x ys
-is-in x ys h = by-listed x ys (λ i _. i) (λ _ e. absurd (subst T e h))
-
-all-in : (xs ys : List ℕ) → T (allIn xs ys) → (v : ℕ) → In v xs → In v ys
-unfolding allIn
-all-in [] ys h v i = absurd i
-all-in (x ∷ xs) ys h v i =
-    ⊎-elim (λ e. subst (λ (y : ℕ). In y ys) (sym e) (is-in x ys (and-left (listed x ys) (allIn xs ys) h)))
-    (λ j. all-in xs ys (and-right (listed x ys) (allIn xs ys) h) v j) i
-
-pub same-in : (xs ys : List ℕ) → T (allIn xs ys) → T (allIn ys xs) → (v : ℕ) → In v xs ↔ In v ys
-same-in xs ys h g v = (all-in xs ys h v, all-in ys xs g v)
+use Rattle.examples.specs.Corollaries.{twoPrice, threePrice, halfPriced, repriced, takenOut, halfTaken, withThirteen, thirteenOut, thePrices, sayingAt}
+use Rattle.examples.specs.Corollaries.{fewWorkers, manyWorkers, altered, fourKeys, sixPlaces, Corollaries}
+use Rattle.examples.proofs.Members.{apart, is-in, not-in, allIn, leastIn, same-prices, is-least, ownLeast, own-least, same-keys, same-orders, right-at}
 
 -- ---- openings
 four-opens : (openReply gateway 2 2 four ≡ Accepted) × (openReply gateway 2 1 four ≡ Accepted)
-unfolding isSound all some clear dist wrap
+unfolding isSoundTable isSound all some clear dist wrap
 four-opens = (refl, refl)
 
 four-looks : openReply gateway 3 2 four ≡ Accepted
-unfolding isSound all some clear dist wrap
+unfolding isSoundTable isSound all some clear dist wrap
 four-looks = refl
 
 empty-opens : (openReply gateway 1 2 (emptyCells 5) ≡ Accepted) × (openReply gateway 1 3 (emptyCells 5) ≡ Accepted)
-unfolding isSound all some clear dist wrap
+unfolding isSoundTable isSound all some clear dist wrap
 empty-opens = (refl, refl)
 
-seven-opens : openReply gateway 1 1 (0 ∷ 7 ∷ []) ≡ Accepted
-unfolding isSound all some clear dist wrap
+prices-open : (openReply gateway 1 2 atPrices ≡ Accepted) × (openReply gateway 2 1 atPrices ≡ Accepted) × (openReply gateway 3 2 atPrices ≡ Accepted)
+unfolding isSoundTable isSound all some clear dist wrap
+prices-open = (refl, refl, refl)
+
+thirteen-opens : openReply gateway 2 1 withThirteen ≡ Accepted
+unfolding isSoundTable isSound all some clear dist wrap
+thirteen-opens = refl
+
+seven-opens : openReply gateway 1 1 (ones (0 ∷ 7 ∷ [])) ≡ Accepted
+unfolding isSoundTable isSound all some clear dist wrap
 seven-opens = refl
 
 four-refused : openReply gateway 4 1 four ≢ Accepted
-unfolding isSound all some clear dist wrap
+unfolding isSoundTable isSound all some clear dist wrap
 four-refused e = let z : _≡_ {A = ℕ} 3 0 = ap replyNumber e in omega arith
 
 -- ---- the lists of calls are closed, and order the same keys
 take-out-closed : (after gateway 2 2 four together .closed ≡ true) × (after gateway 2 1 four inSequence .closed ≡ true)
-unfolding turnsOf rounds run call isWellFormed isSound all some clear dist wrap prev count rule deleteStep fits narrow
+unfolding turnsOf rounds run call isWellFormed isSoundTable isSound all some clear dist wrap prev count rule deleteStep fits narrow
 take-out-closed = (refl, refl)
 
-take-out-keys : (v : ℕ) → In v (after gateway 2 2 four together .ordered) ↔ In v (after gateway 2 1 four inSequence .ordered)
-unfolding allIn listed turnsOf rounds run call isWellFormed isSound all some clear dist wrap prev count rule deleteStep fits narrow
-take-out-keys = same-in (after gateway 2 2 four together .ordered) (after gateway 2 1 four inSequence .ordered) tt tt
+take-out-keys : SameOrders 2 label (after gateway 2 2 four together .ordered) (after gateway 2 1 four inSequence .ordered)
+unfolding allIn listed turnsOf rounds run call isWellFormed isSoundTable isSound all some clear dist wrap prev count rule deleteStep fits narrow
+take-out-keys = same-keys 2 (λ z. omega arith) (after gateway 2 2 four together .ordered) (after gateway 2 1 four inSequence .ordered) tt tt
 
-take-out-ordered : after gateway 2 2 four together .ordered ≡ 8 ∷ 13 ∷ []
-unfolding turnsOf rounds run call isWellFormed isSound all some clear dist wrap prev count rule deleteStep fits narrow
+take-out-ordered : after gateway 2 2 four together .ordered ≡ content 8 0 ∷ content 13 0 ∷ []
+unfolding turnsOf rounds run call isWellFormed isSoundTable isSound all some clear dist wrap prev count rule deleteStep fits narrow
 take-out-ordered = refl
 
 put-in-closed : (after gateway 1 2 (emptyCells 5) (callsOf sheetPutsIn) .closed ≡ true) × (after gateway 1 3 (emptyCells 5) threePutIn .closed ≡ true)
-unfolding turnsOf rounds run call isWellFormed isSound all some clear dist wrap count rule insertStep
+unfolding turnsOf rounds run call isWellFormed isSoundTable isSound all some clear dist wrap count rule settled absorbed insertStep
 put-in-closed = (refl, refl)
 
-put-in-keys : (v : ℕ) → In v (after gateway 1 2 (emptyCells 5) (callsOf sheetPutsIn) .ordered) ↔ In v (after gateway 1 3 (emptyCells 5) threePutIn .ordered)
-unfolding allIn listed turnsOf rounds run call isWellFormed isSound all some clear dist wrap count rule insertStep
-put-in-keys = same-in (after gateway 1 2 (emptyCells 5) (callsOf sheetPutsIn) .ordered) (after gateway 1 3 (emptyCells 5) threePutIn .ordered) tt tt
+put-in-keys : SameOrders 1 label (after gateway 1 2 (emptyCells 5) (callsOf sheetPutsIn) .ordered) (after gateway 1 3 (emptyCells 5) threePutIn .ordered)
+unfolding leastIn listed lesser least turnsOf rounds run call isWellFormed isSoundTable isSound all some clear dist wrap count rule settled absorbed insertStep
+put-in-keys = same-orders 1 (after gateway 1 2 (emptyCells 5) (callsOf sheetPutsIn) .ordered) (after gateway 1 3 (emptyCells 5) threePutIn .ordered) tt tt
 
-none-ordered : after gateway 2 2 four (turn 0 ∷ order 1 0 ∷ order 2 8 ∷ turn 1 ∷ []) .ordered ≡ []
-unfolding run call isWellFormed isSound all some clear dist wrap count
+prices-closed : (after gateway 1 2 (emptyCells 5) twoPrice .closed ≡ true) × (after gateway 1 3 (emptyCells 5) threePrice .closed ≡ true)
+unfolding turnsOf rounds run call isWellFormed isSoundTable isSound all some clear dist wrap count rule settled absorbed insertStep
+prices-closed = (refl, refl)
+
+prices-keys : SameOrders 1 label (after gateway 1 2 (emptyCells 5) twoPrice .ordered) (after gateway 1 3 (emptyCells 5) threePrice .ordered)
+unfolding leastIn listed lesser least turnsOf rounds run call isWellFormed isSoundTable isSound all some clear dist wrap count rule settled absorbed insertStep
+prices-keys = same-orders 1 (after gateway 1 2 (emptyCells 5) twoPrice .ordered) (after gateway 1 3 (emptyCells 5) threePrice .ordered) tt tt
+
+the-prices-closed : after gateway 1 2 (emptyCells 5) thePrices .closed ≡ true
+unfolding turnsOf rounds run call isWellFormed isSoundTable isSound all some clear dist wrap count rule settled absorbed insertStep
+the-prices-closed = refl
+
+thirteen-closed : after gateway 2 1 withThirteen thirteenOut .closed ≡ true
+unfolding turnsOf rounds run call isWellFormed isSoundTable isSound all some clear dist wrap prev count rule deleteStep fits narrow
+thirteen-closed = refl
+
+-- 13 taken out of the one table, 8 and 3 put into the other
+left-over : SameLeast label (entriesAfter 2 (after gateway 2 1 withThirteen thirteenOut .ordered) withThirteen)
+    (entriesAfter 1 (after gateway 1 2 (emptyCells 5) thePrices .ordered) (emptyCells 5))
+unfolding withoutLabels leastIn listed lesser least turnsOf rounds run call
+    isWellFormed isSoundTable isSound all some clear dist wrap prev count rule settled absorbed insertStep deleteStep fits narrow
+left-over = same-prices (entriesAfter 2 (after gateway 2 1 withThirteen thirteenOut .ordered) withThirteen)
+    (entriesAfter 1 (after gateway 1 2 (emptyCells 5) thePrices .ordered) (emptyCells 5)) tt tt
+
+none-ordered : after gateway 2 2 four (turn 0 ∷ order 1 0 1 ∷ order 2 8 1 ∷ turn 1 ∷ []) .ordered ≡ []
+unfolding run call isWellFormed isSoundTable isSound all some clear dist wrap count
 none-ordered = refl
 
 -- ---- lists that are not closed
 -- {7} leaves one empty cell of two, so no order
-seven-full : (suc (length (after gateway 1 1 (0 ∷ 7 ∷ []) [] .ordered)) ≡ vacant (0 ∷ 7 ∷ [])) × (after gateway 1 1 (0 ∷ 7 ∷ []) [] .closed ≡ false)
-    × (doing (after gateway 1 1 (0 ∷ 7 ∷ []) [] .phase) 0 ≡ Idle)
-unfolding run isSound all some clear dist wrap count
+seven-full : (suc (length (after gateway 1 1 (ones (0 ∷ 7 ∷ [])) [] .ordered)) ≡ vacant (ones (0 ∷ 7 ∷ [])))
+    × (after gateway 1 1 (ones (0 ∷ 7 ∷ [])) [] .closed ≡ false)
+    × (doing (after gateway 1 1 (ones (0 ∷ 7 ∷ [])) [] .phase) 0 ≡ Idle)
+unfolding run isSoundTable isSound all some clear dist wrap count
 seven-full = (refl, refl, refl)
 
 two-ordered : (length (after gateway 1 2 (emptyCells 5) twoOrdered .ordered) ≡ 2) × (vacant (emptyCells 5) ≡ 5)
-unfolding run call isWellFormed isSound all some clear dist wrap count
+unfolding run call isWellFormed isSoundTable isSound all some clear dist wrap count
 two-ordered = (refl, refl)
 
-one-pending : (getD (after gateway 2 2 four oneOrdered .pending) 0 0 ≡ 13) × (getD (after gateway 2 2 four oneOrdered .pending) 1 0 ≡ 0)
-unfolding run call isWellFormed isSound all some clear dist wrap count
+one-pending : (getD (after gateway 2 2 four oneOrdered .pending) 0 0 ≡ content 13 0) × (getD (after gateway 2 2 four oneOrdered .pending) 1 0 ≡ 0)
+unfolding run call isWellFormed isSoundTable isSound all some clear dist wrap count
 one-pending = (refl, refl)
 
 -- the answers of the turns, counted
 turns-worked : count worked (turnReplies gateway together (opening gateway 2 2 four)) ≡ 27
-unfolding turnReplies turnsOf rounds run call isWellFormed isSound all some clear dist wrap prev count rule deleteStep fits narrow
+unfolding turnReplies turnsOf rounds run call isWellFormed isSoundTable isSound all some clear dist wrap prev count rule deleteStep fits narrow
 turns-worked = refl
 
 take-out-claim : Claim gateway 2 2 four together
@@ -159,19 +169,18 @@ half-claim = histories.history gateway gateway-proper 1 2 (emptyCells 5) (empty-
 look-claim : Claim gateway 3 2 four (callsOf looksUp)
 look-claim = histories.history gateway gateway-proper 3 2 four four-looks (callsOf looksUp)
 
-half-ordered : In 3 (after gateway 1 2 (emptyCells 5) halfPutIn .ordered)
-unfolding listed turnsOf rounds run call isWellFormed isSound all some clear dist wrap count rule insertStep
-half-ordered = is-in 3 (after gateway 1 2 (emptyCells 5) halfPutIn .ordered) tt
+half-ordered : In 3 (labels label (after gateway 1 2 (emptyCells 5) halfPutIn .ordered))
+unfolding listed turnsOf rounds run call isWellFormed isSoundTable isSound all some clear dist wrap count rule settled absorbed insertStep
+half-ordered = is-in 3 (labels label (after gateway 1 2 (emptyCells 5) halfPutIn .ordered)) tt
 
-three-unordered : In 3 (after gateway 2 2 four together .ordered) → ⊥
-three-unordered i =
-    let j : In 3 (8 ∷ 13 ∷ []) = subst (In 3) take-out-ordered i in
-    ⊎-elim (λ e. let z : _≡_ {A = ℕ} 3 8 = e in omega arith) (λ k. ⊎-elim (λ e. let z : _≡_ {A = ℕ} 3 13 = e in omega arith) (λ x. x) k) j
+three-unordered : In 3 (labels label (after gateway 2 2 four together .ordered)) → ⊥
+unfolding listed turnsOf rounds run call isWellFormed isSoundTable isSound all some clear dist wrap prev count rule deleteStep fits narrow
+three-unordered = not-in 3 (labels label (after gateway 2 2 four together .ordered)) tt
 
 -- 4 was ordered once, and its order has finished
-four-looked : (count (λ x. eqb x 4) (after gateway 3 2 four (callsOf looksUp) .pending) ≡ 0)
-    × (count (λ x. eqb x 4) (after gateway 3 2 four (callsOf looksUp) .ordered) ≡ 1)
-unfolding run call isWellFormed isSound all some clear dist wrap count rule findStep
+four-looked : (count (λ x. eqb (label x) 4) (after gateway 3 2 four (callsOf looksUp) .pending) ≡ 0)
+    × (count (λ x. eqb (label x) 4) (after gateway 3 2 four (callsOf looksUp) .ordered) ≡ 1)
+unfolding run call isWellFormed isSoundTable isSound all some clear dist wrap count rule findStep
 four-looked = (refl, refl)
 
 two-left : after gateway 1 2 (emptyCells 5) twoOrdered .phase .left ≡ 2
@@ -179,48 +188,173 @@ two-left =
     let e = histories.history gateway gateway-proper 1 2 (emptyCells 5) (empty-opens .0) twoOrdered .left refl in
     omega (arith, e, two-ordered .0, two-ordered .1)
 
--- ---- the same events
-events-idle : AllIdle (events.after 2 5 2 (modulo 5) four eventsTogether) × AllIdle (events.after 2 5 1 (modulo 5) four eventsInSequence)
-unfolding noneBusy round schedules.rounds steps events.run event accepts ordered stepped rule deleteStep fits narrow dist wrap prev count
-events-idle = (
-  all-idle (events.after 2 5 2 (modulo 5) four eventsTogether .workers) tt,
-  all-idle (events.after 2 5 1 (modulo 5) four eventsInSequence .workers) tt,
+-- ---- prices
+priced-claim : Claim gateway 1 2 (emptyCells 5) twoPrice
+priced-claim = histories.history gateway gateway-proper 1 2 (emptyCells 5) (empty-opens .0) twoPrice
+
+half-priced-claim : Claim gateway 1 2 (emptyCells 5) halfPriced
+half-priced-claim = histories.history gateway gateway-proper 1 2 (emptyCells 5) (empty-opens .0) halfPriced
+
+repriced-claim : Claim gateway 1 2 atPrices repriced
+repriced-claim = histories.history gateway gateway-proper 1 2 atPrices (prices-open .0) repriced
+
+taken-claim : Claim gateway 2 1 atPrices takenOut
+taken-claim = histories.history gateway gateway-proper 2 1 atPrices (prices-open .1) takenOut
+
+half-taken-claim : Claim gateway 2 1 atPrices halfTaken
+half-taken-claim = histories.history gateway gateway-proper 2 1 atPrices (prices-open .1) halfTaken
+
+price-claim : Claim gateway 3 2 atPrices (callsOf anyPrice)
+price-claim = histories.history gateway gateway-proper 3 2 atPrices (prices-open .2) (callsOf anyPrice)
+
+-- the least and a greater price ordered for 8
+eight-least : Least label (after gateway 1 2 (emptyCells 5) twoPrice .ordered ++ emptyCells 5) (content 8 3)
+unfolding listed lesser least turnsOf rounds run call isWellFormed isSoundTable isSound all some clear dist wrap count rule settled absorbed insertStep
+eight-least =
+    let xs = after gateway 1 2 (emptyCells 5) twoPrice .ordered ++ emptyCells 5 in
+    is-least xs (content 8 3) (apart 8 0 tt) (is-in (content 8 3) xs tt) tt
+
+eight-dearer : Least label (after gateway 1 2 (emptyCells 5) twoPrice .ordered ++ emptyCells 5) (content 8 5) → ⊥
+eight-dearer l = let z : content 8 5 ≤ content 8 3 = l .most (content 8 3) (eight-least .member) refl in omega arith
+
+half-least : Least label (after gateway 1 2 (emptyCells 5) halfPriced .ordered ++ emptyCells 5) (content 8 3)
+unfolding listed lesser least turnsOf rounds run call isWellFormed isSoundTable isSound all some clear dist wrap count rule settled absorbed insertStep
+half-least =
+    let xs = after gateway 1 2 (emptyCells 5) halfPriced .ordered ++ emptyCells 5 in
+    is-least xs (content 8 3) (apart 8 0 tt) (is-in (content 8 3) xs tt) tt
+
+never-ordered : In (content 8 4) (after gateway 1 2 (emptyCells 5) halfPriced .ordered ++ emptyCells 5) → ⊥
+unfolding listed turnsOf rounds run call isWellFormed isSoundTable isSound all some clear dist wrap count rule settled absorbed insertStep
+never-ordered = not-in (content 8 4) (after gateway 1 2 (emptyCells 5) halfPriced .ordered ++ emptyCells 5) tt
+
+-- 8 keeps its price at opening, 3 gets a lower one
+repriced-closed : after gateway 1 2 atPrices repriced .closed ≡ true
+unfolding turnsOf rounds run call isWellFormed isSoundTable isSound all some clear dist wrap count rule settled absorbed insertStep
+repriced-closed = refl
+
+repriced-least : Least label (after gateway 1 2 atPrices repriced .ordered ++ atPrices) (content 8 9)
+    × Least label (after gateway 1 2 atPrices repriced .ordered ++ atPrices) (content 3 2)
+unfolding listed lesser least turnsOf rounds run call isWellFormed isSoundTable isSound all some clear dist wrap count rule settled absorbed insertStep
+repriced-least =
+    let xs = after gateway 1 2 atPrices repriced .ordered ++ atPrices in (
+      is-least xs (content 8 9) (apart 8 0 tt) (is-in (content 8 9) xs tt) tt,
+      is-least xs (content 3 2) (apart 3 0 tt) (is-in (content 3 2) xs tt) tt,
+    )
+
+three-dearer : Least label (after gateway 1 2 atPrices repriced .ordered ++ atPrices) (content 3 7) → ⊥
+three-dearer l = let z : content 3 7 ≤ content 3 2 = l .most (content 3 2) (repriced-least .1 .member) refl in omega arith
+
+-- taken out: 8 was ordered, 3 was not
+taken-closed : after gateway 2 1 atPrices takenOut .closed ≡ true
+unfolding turnsOf rounds run call isWellFormed isSoundTable isSound all some clear dist wrap prev count rule deleteStep fits narrow
+taken-closed = refl
+
+eight-taken : In 8 (labels label (after gateway 2 1 atPrices takenOut .ordered))
+unfolding listed turnsOf rounds run call isWellFormed isSoundTable isSound all some clear dist wrap prev count rule deleteStep fits narrow
+eight-taken = is-in 8 (labels label (after gateway 2 1 atPrices takenOut .ordered)) tt
+
+three-kept : (In 3 (labels label (after gateway 2 1 atPrices takenOut .ordered)) → ⊥)
+    × (In 3 (labels label (after gateway 2 1 atPrices halfTaken .ordered)) → ⊥)
+unfolding listed turnsOf rounds run call isWellFormed isSoundTable isSound all some clear dist wrap prev count rule deleteStep fits narrow
+three-kept = (
+  not-in 3 (labels label (after gateway 2 1 atPrices takenOut .ordered)) tt,
+  not-in 3 (labels label (after gateway 2 1 atPrices halfTaken .ordered)) tt,
 )
 
-events-keys : (v : ℕ) → In v (events.after 2 5 2 (modulo 5) four eventsTogether .ordered) ↔ In v (events.after 2 5 1 (modulo 5) four eventsInSequence .ordered)
+three-there : In (content 3 7) atPrices
+unfolding listed
+three-there = is-in (content 3 7) atPrices tt
+
+no-three : In (content 3 8) atPrices → ⊥
+unfolding listed
+no-three = not-in (content 3 8) atPrices tt
+
+-- looked up: 4 last, 3 before it
+looked : (1 < length (after gateway 3 2 atPrices (callsOf anyPrice) .said))
+    × (label (sayingAt (after gateway 3 2 atPrices (callsOf anyPrice) .said) 0 .wanted) ≡ 4)
+    × (label (sayingAt (after gateway 3 2 atPrices (callsOf anyPrice) .said) 1 .wanted) ≡ 3)
+unfolding run call isWellFormed isSoundTable isSound all some clear dist wrap count rule findStep
+looked = (omega arith, refl, refl)
+
+three-sold : Sold label atPrices 3 7
+three-sold = record { content = content 3 7; member = three-there; is = refl; costs = refl }
+
+four-unsold : (p : ℕ) → Sold label atPrices 4 p → ⊥
+unfolding listed
+four-unsold p s =
+    not-in 4 (labels label atPrices) tt
+    (subst (λ (l : ℕ). In l (labels label atPrices)) (s .is) (in-labels label atPrices (s .content) (s .member)))
+
+three-costs : sayingAt (after gateway 3 2 atPrices (callsOf anyPrice) .said) 1 .price ≡ 7
+three-costs =
+    let said = after gateway 3 2 atPrices (callsOf anyPrice) .said in
+    let (l, _, e) = looked in
+    right-at atPrices said (price-claim .right refl) 1 l 7 .1 (subst (λ (x : ℕ). Sold label atPrices x 7) (sym e) three-sold) .1
+
+four-not-found : T (sayingAt (after gateway 3 2 atPrices (callsOf anyPrice) .said) 0 .found) → ⊥
+four-not-found h =
+    let said = after gateway 3 2 atPrices (callsOf anyPrice) .said in
+    let (l, e, _) = looked in
+    let p : ℕ = sayingAt said 0 .price in
+    four-unsold p (subst (λ (x : ℕ). Sold label atPrices x p) e (right-at atPrices said (price-claim .right refl) 0 (omega arith) p .0 (h, refl)))
+
+-- ---- the same events
+events-idle : AllIdle (events.after 2 5 2 label (modulo 5) four eventsTogether) × AllIdle (events.after 2 5 1 label (modulo 5) four eventsInSequence)
+unfolding noneBusy round schedules.rounds steps events.run event accepts ordered stepped rule deleteStep fits narrow dist wrap prev count
+events-idle = (
+  all-idle (events.after 2 5 2 label (modulo 5) four eventsTogether .workers) tt,
+  all-idle (events.after 2 5 1 label (modulo 5) four eventsInSequence .workers) tt,
+)
+
+events-keys : SameOrders 2 label (events.after 2 5 2 label (modulo 5) four eventsTogether .ordered)
+    (events.after 2 5 1 label (modulo 5) four eventsInSequence .ordered)
 unfolding allIn listed round schedules.rounds steps events.run event accepts ordered stepped rule deleteStep fits narrow dist wrap prev count
 events-keys =
-    same-in (events.after 2 5 2 (modulo 5) four eventsTogether .ordered) (events.after 2 5 1 (modulo 5) four eventsInSequence .ordered) tt tt
+    same-keys 2 (λ z. omega arith) (events.after 2 5 2 label (modulo 5) four eventsTogether .ordered)
+    (events.after 2 5 1 label (modulo 5) four eventsInSequence .ordered) tt tt
 
 -- ---- tables
-four-sound : Sound 5 (modulo 5) four
-unfolding isSound all some clear dist wrap
-four-sound = isSound-says 5 (modulo 5) four tt
+four-sound : SoundTable 5 (modulo 5) four
+unfolding isSoundTable isSound all some clear dist wrap
+four-sound = contents .test 5 (modulo 5) four .0 tt
 
-eight-unsound : Sound 5 (modulo 5) (0 ∷ 0 ∷ 0 ∷ 8 ∷ 13 ∷ []) → ⊥
-unfolding isSound all some clear dist wrap
-eight-unsound s = isSound-of 5 (modulo 5) (0 ∷ 0 ∷ 0 ∷ 8 ∷ 13 ∷ []) s
+four-priced : PricedSound 5 label (modulo 5) four
+four-priced = contents .priced 5 (modulo 5) four four-sound
 
-below-five : (x : ℕ) → modulo 5 x < 5
-below-five x = mod-lt x (zero-lt-suc 4)
+eight-unsound : SoundTable 5 (modulo 5) (ones (0 ∷ 0 ∷ 0 ∷ 8 ∷ 13 ∷ [])) → ⊥
+unfolding isSoundTable isSound all some clear dist wrap
+eight-unsound s = contents .test 5 (modulo 5) (ones (0 ∷ 0 ∷ 0 ∷ 8 ∷ 13 ∷ [])) .1 s
+
+price-unsound : SoundTable 5 (modulo 5) (0 ∷ 0 ∷ 0 ∷ content 8 10000000 ∷ 0 ∷ []) → ⊥
+unfolding isSoundTable isSound all some clear dist wrap
+price-unsound s = contents .test 5 (modulo 5) (0 ∷ 0 ∷ 0 ∷ content 8 10000000 ∷ 0 ∷ []) .1 s
+
+five-rules : Rules 5 label (modulo 5)
+five-rules = record { blank = refl; inside = λ x. mod-lt x (zero-lt-suc 4) }
 
 -- two keys stand before cell 3, which holds 13
 two-before : keysBefore four 3 ≡ 2
 unfolding count
 two-before = refl
 
-four-size : size four ≡ 4
+four-size : size (labels label four) ≡ 4
 unfolding descending into
 four-size = refl
 
 five-cells : Size gateway 5
 five-cells = (omega arith, omega arith)
 
--- its keys, in any order
-four-keys : (y : ℕ) → y ≢ 0 → Holds 5 four y ↔ In y fourKeys
-unfolding allIn listed
-four-keys y nz =
-    (λ h. ⊎-elim (λ e. absurd (nz e)) (λ i. i) (all-in four (0 ∷ fourKeys) tt y (held-in 5 four y refl h)), λ i. in-holds 5 four y refl (all-in fourKeys four tt y i))
+-- its entries are the least ones of its keys in any order
+four-same : SameLeast label four fourKeys
+unfolding leastIn listed lesser least
+four-same = same-prices four fourKeys tt tt
+
+four-own : (y : ℕ) → label y ≢ 0 → In y four → Least label four y
+unfolding ownLeast lesser least
+four-own y nz i = is-least four y nz i (own-least four four tt y i)
+
+four-keys : (y : ℕ) → label y ≢ 0 → Holds 5 four y ↔ Least label fourKeys y
+four-keys y nz = (λ h. four-same y nz .0 (four-own y nz (held-in 5 four y refl h)), λ l. in-holds 5 four y refl (four-same y nz .1 l .member))
 
 -- ---- turns
 turns-pass : (turnCheck gateway fewWorkers four 1 ≡ Accepted) × (turnCheck gateway manyWorkers altered 7 ≡ Accepted)
@@ -240,14 +374,14 @@ other-place c ne e = let z : c ≡ 4 = cc in ne z
 list-accepted : countNumber (listCall gateway four sixPlaces) ≡ 0
 list-accepted =
     let (_, (_, (_, none))) = tables gateway gateway-proper four sixPlaces .list in
-    let l : size four ≤ 6 = omega (arith, four-size) in
-    none .1 (((tt, five-cells), four-sound), l)
+    let l : size (labels label four) ≤ 6 = omega (arith, four-size) in
+    none .1 (((tt, five-cells), sounds gateway four .0 four-sound), l)
 
 list-short : countNumber (listCall gateway four (70 ∷ 71 ∷ 72 ∷ [])) ≡ 12
 list-short =
     let (_, (_, (twelve, _))) = tables gateway gateway-proper four (70 ∷ 71 ∷ 72 ∷ []) .list in
-    let l : 3 < size four = omega (arith, four-size) in
-    twelve .1 (((tt, five-cells), four-sound), l)
+    let l : 3 < size (labels label four) = omega (arith, four-size) in
+    twelve .1 (((tt, five-cells), sounds gateway four .0 four-sound), l)
 
 enough : countOf twoGroups ≤ 6
 enough = let e : countOf twoGroups ≡ 4 = count-occupied twoGroups in omega arith
@@ -277,18 +411,34 @@ corollaries =
           one-table gateway gateway gateway-proper gateway-proper 1 2 3 (emptyCells 5) (λ x. refl) (empty-opens .0) (empty-opens .1) (callsOf sheetPutsIn)
           threePutIn put-in-keys (put-in-closed .0) (put-in-closed .1);
       one-end =
-          one-end 2 5 2 1 (inr (inl refl)) (modulo 5) below-five four four-sound eventsTogether eventsInSequence events-keys (events-idle .0)
-          (events-idle .1);
+          one-end 2 5 2 1 (inr (inl refl)) label (modulo 5) five-rules four four-priced eventsTogether eventsInSequence (λ z. absurd (apart 2 1 tt z))
+          events-keys (events-idle .0) (events-idle .1);
       laid-out =
           take-out-claim .closed (take-out-closed .0)
-          ∙ ap (λ (xs : List ℕ). layout 5 (modulo 5) (without xs four)) take-out-ordered;
+          ∙ ap (λ (xs : List ℕ). pricedLayout 5 label (modulo 5) (withoutLabels label xs four)) take-out-ordered;
+      put-in-prices =
+          one-table gateway gateway gateway-proper gateway-proper 1 2 3 (emptyCells 5) (λ x. refl) (empty-opens .0) (empty-opens .1) twoPrice threePrice
+          prices-keys (prices-closed .0) (prices-closed .1);
+      fixed =
+          fixed gateway gateway gateway-proper gateway-proper 2 1 1 2 withThirteen (emptyCells 5) refl (λ x. refl) thirteen-opens (empty-opens .0) thirteenOut
+          thePrices left-over thirteen-closed the-prices-closed;
+      sound = subst (λ (n : ℕ). SoundTable n (modulo n) (after gateway 1 2 (emptyCells 5) twoPrice .table)) (priced-claim .numbers .sized)
+          (priced-claim .sound (prices-closed .0));
+      sound-in-words = sounds gateway (after gateway 1 2 (emptyCells 5) twoPrice .table) .0 (priced-claim .sound (prices-closed .0));
+      right-cells = half-priced-claim .cells;
+      cheapest = priced-claim .cheapest refl (prices-closed .0) (content 8 3) (apart 8 0 tt) .1 eight-least;
+      not-dearer = λ i. eight-dearer (priced-claim .cheapest refl (prices-closed .0) (content 8 5) (apart 8 0 tt) .0 i);
+      opening-price = repriced-claim .cheapest refl repriced-closed (content 8 9) (apart 8 0 tt) .1 (repriced-least .0);
+      lower-price = repriced-claim .cheapest refl repriced-closed (content 3 2) (apart 3 0 tt) .1 (repriced-least .1);
+      price-gone = λ i. three-dearer (repriced-claim .cheapest refl repriced-closed (content 3 7) (apart 3 0 tt) .0 i);
       handed-back = λ cs. refused gateway 4 1 four four-refused cs .0;
-      kept = keeps-table gateway gateway-proper 2 2 four (four-opens .0) .no-orders (turn 0 ∷ order 1 0 ∷ order 2 8 ∷ turn 1 ∷ []) none-ordered;
+      kept = keeps-table gateway gateway-proper 2 2 four (four-opens .0) .no-orders (turn 0 ∷ order 1 0 1 ∷ order 2 8 1 ∷ turn 1 ∷ []) none-ordered;
       at-once = keeps-table gateway gateway-proper 2 2 four (four-opens .0) .at-once .0;
       at-once-kept = keeps-table gateway gateway-proper 2 2 four (four-opens .0) .at-once .1;
       full =
           let (up, running, idle) = seven-full in
-          histories.history gateway gateway-proper 1 1 (0 ∷ 7 ∷ []) seven-opens [] .full 0 4 .1 (refl, up, running, omega arith, idle, λ z. omega arith);
+          histories.history gateway gateway-proper 1 1 (ones (0 ∷ 7 ∷ [])) seven-opens [] .full 0 4 1 .1
+          (refl, up, running, omega arith, idle, λ z. omega arith, omega arith, omega arith);
       left = two-left;
       none-left = one-claim .none-left (λ z. omega arith);
       counts = take-out-claim .counts ∙ turns-worked;
@@ -299,152 +449,39 @@ corollaries =
       resting = one-claim .unfinished 1 .0 (one-pending .1);
       numbers = take-out-claim .numbers .crew;
       formed = take-out-claim .formed;
+      acceptable = λ y i. priced-claim .acceptable y i .priced refl;
       ordering = half-claim .ordering refl;
       union = half-claim .union refl 3 (λ z. omega arith) .1 (inr half-ordered);
-      untouched = take-out-claim .kept refl 3 (λ z. omega arith) (inr (inl refl)) three-unordered;
+      least-there = half-priced-claim .prices refl (content 8 3) (apart 8 0 tt) .1 half-least;
+      none-else = λ i. never-ordered (half-priced-claim .only refl (content 8 4) (apart 8 0 tt) i);
+      untouched = take-out-claim .kept refl (one 3) (apart 3 0 tt) (inr (inl refl)) three-unordered;
+      keeps-price = half-taken-claim .kept refl (content 3 7) (apart 3 0 tt) three-there (three-kept .1);
+      none-new = λ i. no-three (half-taken-claim .none-new refl (content 3 8) (apart (content 3 8) 0 tt) i);
+      stays = taken-claim .remaining refl taken-closed (content 3 7) (apart 3 0 tt) .1 (three-there, three-kept .0);
+      gone = λ i. taken-claim .remaining refl taken-closed (content 8 9) (apart 8 0 tt) .0 i .1 eight-taken;
       unchanged = look-claim .unchanged refl;
       right = look-claim .right refl;
+      price-said = three-costs;
+      no-said = four-not-found;
       each = let e = look-claim .each refl 4 (λ z. omega arith) in omega (arith, e, four-looked .0, four-looked .1);
       replies = alike .replies;
       records = alike .records;
       cells = alike .cells 4 refl;
       other-cells = λ c ne. alike .other-cells c (other-place c ne);
       other-workers = alike .other-workers;
-      one-layout = layouts 5 (modulo 5) below-five .unique fourKeys four four-sound four-keys;
-      passes = tables gateway gateway-proper four [] .check .1 .1 .1 ((tt, five-cells), four-sound);
-      refuses = tables gateway gateway-proper (0 ∷ 0 ∷ 0 ∷ 8 ∷ 13 ∷ []) [] .check .1 .0 .1 ((tt, five-cells), eight-unsound);
-      labels = tables gateway gateway-proper four [] .count-true (five-cells, four-sound) ∙ four-size;
-      listed = ap (λ (i : ℕ). getD (listAfter gateway four sixPlaces) i 0) (sym two-before) ∙ lists .listed list-accepted 3 (λ z. omega arith);
+      one-layout = layouts 5 label (modulo 5) (five-rules .blank) (five-rules .inside) .unique fourKeys four four-priced four-keys;
+      passes = tables gateway gateway-proper four [] .check .1 .1 .1 ((tt, five-cells), sounds gateway four .0 four-sound);
+      refuses = tables gateway gateway-proper (ones (0 ∷ 0 ∷ 0 ∷ 8 ∷ 13 ∷ [])) [] .check .1 .0 .1 ((tt, five-cells), λ s. eight-unsound (sounds gateway (ones (0 ∷ 0 ∷ 0 ∷ 8 ∷ 13 ∷ [])) .1 s));
+      refuses-price =
+          tables gateway gateway-proper (0 ∷ 0 ∷ 0 ∷ content 8 10000000 ∷ 0 ∷ []) [] .check .1 .0 .1 ((tt, five-cells), λ s. price-unsound (sounds gateway (0 ∷ 0 ∷ 0 ∷ content 8 10000000 ∷ 0 ∷ []) .1 s));
+      count = tables gateway gateway-proper four [] .count-true (five-cells, sounds gateway four .0 four-sound) ∙ four-size;
+      listed = ap (λ (i : ℕ). getD (listAfter gateway four sixPlaces) i 0) (sym two-before) ∙ lists .listed list-accepted 3 (apart 13 0 tt);
       behind = lists .behind list-accepted 4 (omega (arith, four-size));
-      front = ap (λ (i : ℕ). getD (listFront gateway four sixPlaces) i 0) (sym two-before) ∙ lists .front list-accepted 3 (λ z. omega arith);
+      front = ap (λ (i : ℕ). getD (listFront gateway four sixPlaces) i 0) (sym two-before) ∙ lists .front list-accepted 3 (apart 13 0 tt);
       front-long = lists .front-long list-accepted ∙ four-size;
       short = list-short;
       unlisted = tables gateway gateway-proper four (70 ∷ 71 ∷ 72 ∷ []) .unlisted (λ z. let e = list-short in omega arith);
       any-order = listings twoGroups .any-order (1 ∷ 0 ∷ 1 ∷ []) sixPlaces enough each-group;
       group-fills = listings twoGroups .group-fills 1 3 sixPlaces (omega arith) (omega (arith, second-places .0)) (omega (arith, second-places .1));
       group-keeps = listings twoGroups .group-keeps 1 2 sixPlaces (λ l _. omega (arith, second-places .0));
-    }
-
--- ---- single calls
-opened-number : replyNumber (openCall gateway 1 2 (emptyCells 5) .reply) ≡ 0
-unfolding isSound all some clear dist wrap
-opened-number = refl
-
-four-opened : replyNumber (openCall gateway 2 2 four .reply) ≡ 0
-unfolding isSound all some clear dist wrap
-four-opened = refl
-
-not-opened : replyNumber (openCall gateway 4 1 four .reply) ≢ 0
-unfolding isSound all some clear dist wrap
-not-opened z = omega arith
-
-rests : Resting gateway 1 5 2 false justOpened
-rests = opens gateway 1 2 (emptyCells 5) .accepted opened-number
-
-five-vacant : vacant (emptyCells 5) ≡ 5
-unfolding count
-five-vacant = refl
-
-four-left : justOpened .left ≡ 4
-four-left = let e = opens gateway 1 2 (emptyCells 5) .insert-left opened-number refl in omega (arith, e, five-vacant)
-
--- the order of 3 to worker 0
-order-number : replyNumber (orderCall gateway justOpened 0 3 .reply) ≡ 0
-unfolding isWellFormed isSound all some clear dist wrap count
-order-number = refl
-
-started : Starts gateway justOpened 0 3 (orderCall gateway justOpened 0 3 .phase)
-started = orders gateway justOpened 0 3 .accepted order-number
-
-other-order : replyNumber (orderCall gateway manyWorkers 1 3 .reply) ≡ 0
-unfolding isWellFormed
-other-order = refl
-
-close-number : replyNumber (closeCall gateway justOpened .reply) ≡ 0
-unfolding isWellFormed isSound all some clear dist wrap count
-close-number = refl
-
--- turns
-puts-number : turnNumber (turnCall gateway puttingIn (0 ∷ 0 ∷ 0 ∷ 8 ∷ 3 ∷ []) 0 .reply) ≡ 0
-unfolding isWellFormed
-puts-number = refl
-
-takes-number : turnNumber (turnCall gateway fewWorkers four 1 .reply) ≡ 0
-unfolding isWellFormed
-takes-number = refl
-
--- a cell keeps its content if what a turn may write does not fit
-same-content : (t u : List ℕ) (c : ℕ) → (getD u c 0 ≢ getD t c 0 → ⊥) → getD u c 0 ≡ getD t c 0
-same-content t u c h = by-eq (getD u c 0) (getD t c 0) (λ e. e) (λ ne. absurd (h ne))
-
-nine-differs : (c after : ℕ) → Replaces 2 (doing fewWorkers 1) c (getD overwritten c 0) after → ⊥
-nine-differs c after (e, or) = ⊎-elim (λ (k, _, _). let z : _≡_ {A = ℕ} 2 1 = k in omega arith) (λ (_, held, _).
-    let z : _≡_ {A = ℕ} 9 8 = subst (λ (x : ℕ). getD overwritten x 0 ≡ 8) (sym e) held in omega arith) or
-
-said-yes : turnCall gateway (lookingUp 13 3) four 0 .reply ≡ Answered Yes
-unfolding isWellFormed rule findStep
-said-yes = refl
-
-made : Made gateway madeOnOthers
-made = closed _ (turned _ (madeByOrder _ (turned _ (madeByOrder _ (opened 1 2 (emptyCells 5)) 0 3) four 0) 1 8) altered 1)
-
-few-formed : WellFormed gateway fewWorkers
-unfolding isWellFormed
-few-formed = well-formed gateway fewWorkers .0 refl
-
-apart : SplitTurn gateway fewWorkers four 1
-apart = splits .turn gateway fewWorkers few-formed refl four refl 1 (omega arith)
-
-apart-order : SplitOrder gateway fewWorkers 0 9
-apart-order = splits .order gateway fewWorkers few-formed refl 0 (omega arith) 9
-
--- the worker alone
-one-turn : oneTurn gateway 2 5 four (worker (Replacing 8 4 0 4)) ≡ record { worker = worker (WalkingBack 4 0); reply = Answered WentOn }
-unfolding rule deleteStep
-one-turn = refl
-
-one-table-left : oneTable gateway 2 5 four (worker (Replacing 8 4 0 4)) ≡ 4 ∷ 3 ∷ 0 ∷ 13 ∷ 4 ∷ []
-unfolding rule deleteStep
-one-table-left = refl
-
-pub call-corollaries : CallCorollaries
-call-corollaries =
-    let refused = opens gateway 4 1 four in
-    let ended = closes gateway justOpened .accepted close-number in
-    let takes = turns gateway fewWorkers four 1 in
-    let taken = turns gateway manyWorkers altered 7 in
-    record {
-      opened-crew = rests .crew;
-      opened-cells = rests .cells;
-      opened-idle = rests .rest 1;
-      opened-left = four-left;
-      other-left = opens gateway 2 2 four .other-left four-opened (λ z. omega arith);
-      refused-shut = refused .refused not-opened .shut;
-      refused-cells = refused .refused not-opened .cells;
-      refused-left = refused .refused-left not-opened;
-      starts = started .starts (rw (rests .places) (omega arith)) ∙ ap (λ (n : ℕ). Reading 3 (modulo n 3)) (rests .cells);
-      takes-one = let e = started .takes-one (rests .kind) in omega (arith, e, four-left);
-      takes-none = orders gateway manyWorkers 1 3 .accepted other-order .takes-none (λ z. omega arith);
-      order-leaves = started .others .others 1 (λ z. omega arith) ∙ rests .rest 1;
-      inserts = turns gateway puttingIn (0 ∷ 0 ∷ 0 ∷ 8 ∷ 3 ∷ []) 0 .inserts puts-number refl 13 3 3 8 refl refl;
-      deletes = takes .deletes takes-number refl 8 4 0 4 refl refl;
-      differs = λ c. same-content overwritten (turnTable gateway fewWorkers overwritten 1) c (λ ne.
-          nine-differs c (getD (turnTable gateway fewWorkers overwritten 1) c 0) (turns gateway fewWorkers overwritten 1 .writes c ne));
-      reads = λ c. same-content four (turnTable gateway manyWorkers four 0) c (turns gateway manyWorkers four 0 .writes c);
-      finished = let (_, _, b) = turns gateway (lookingUp 13 3) four 0 .answered Yes said-yes .told .0 (inl refl) in b;
-      not-yes = λ e. let z : _≡_ {A = ℕ} 8 9 = turns gateway (lookingUp 9 4) four 0 .says-yes e 4 refl in omega arith;
-      not-no = λ e. turns gateway (lookingUp 13 3) four 0 .says-no e 3 refl refl;
-      idle = turns gateway fewWorkers four 0 .idle refl .0;
-      turn-crew = taken .others .frame .crew;
-      turn-left = taken .left;
-      turn-open = taken .others .shut;
-      turn-leaves = taken .others .others 0 (λ z. omega arith);
-      closes = ended .shut;
-      close-leaves = ended .workers;
-      unspoilt = λ e. let (spoilt, _) = closes gateway madeOnOthers .answers in spoilt .0 e .1 (gateway-never-spoilt madeOnOthers made);
-      places = places gateway madeOnOthers made;
-      apart-reply = apart .reply ∙ ap (λ (m : Moved). m .reply) one-turn;
-      apart-phase = apart .phase ∙ ap (λ (m : Moved). withWorker fewWorkers 1 (m .worker .activity)) one-turn;
-      apart-table = apart .table ∙ one-table-left;
-      apart-order = apart-order .phase;
     }

@@ -1,33 +1,37 @@
 -- The corollaries on other lengths and kinds, each by its promise. Premises are computed, conclusions are not.
 use mathlib.Core.Path.{_≡_, refl, sym, ap, _∙_, subst}
-use mathlib.Core.Logic.{_≢_, _↔_, inl, inr, ⊎-elim}
+use mathlib.Core.Logic.{_≢_, _↔_, inl}
 use mathlib.Core.Bool.{true}
 use mathlib.Core.List.{[], _∷_}
-use Prim.Native.Nat.{ℕ, suc, _≤_, _<_}
+use Prim.Native.Nat.{ℕ, suc, _≤_}
 use native.Mathlib.Nat.{zero-lt-suc, mod-lt}
 use native.Mathlib.Omega.{arith}
 use lib.ListN.{getD}
 use Rattle.ring.specs.Counting.{count}
 use Rattle.ring.specs.Ring.{wrap, dist}
 use Rattle.layout.specs.Home.{modulo}
-use Rattle.layout.specs.Layout.{In, into, descending, size, listed}
-use Rattle.layout.specs.Sound.{Holds, Sound, all, some, clear, isSound}
+use Rattle.layout.specs.Layout.{into, descending, size, listed}
+use Rattle.layout.specs.Sound.{Holds, all, some, clear, isSound}
 use Rattle.layout.proofs.Sets.{held-in, in-holds}
-use Rattle.layout.proofs.Sound.{isSound-says}
-use Rattle.layout.proofs.Theorem.{theorem as layouts}
+use Rattle.prices.specs.Contents.{label, content, SoundTable, isSoundTable}
+use Rattle.prices.specs.Priced.{labels, lesser, least, Least, SameLeast, PricedSound}
+use Rattle.prices.proofs.Contents.{contents}
+use Rattle.prices.proofs.Theorem.{theorem as layouts}
 use Rattle.words.specs.Promise.{keysBefore}
 use Rattle.rule.specs.declared.Place.{Place}
 use Rattle.rule.specs.declared.Place.the-variants.{At}
 use Rattle.rule.specs.Events.{stepped, ordered, accepts, event, AllIdle}
 use Rattle.rule.specs.Events as events
-use Rattle.rule.specs.Rule.{insertStep, findStep, rule}
-use Rattle.rule.specs.Schedules.{steps, noneBusy}
+use Rattle.rule.specs.Rule.{settled, absorbed, insertStep, findStep, rule}
+use Rattle.rule.specs.Schedules.{one, steps, noneBusy}
 use Rattle.rule.proofs.Schedules.{all-idle}
+use Rattle.phases.specs.Promise.{Roomy, Rules, SameOrders}
 use Rattle.determinism.proofs.Theorem.{one-end}
 use Rattle.state.specs.Model.{gateway}
 use Rattle.state.specs.Open.{openReply}
 use Rattle.state.specs.declared.Reply.the-variants.{Accepted}
 use Rattle.state.proofs.Model.{gateway-proper}
+use Rattle.protocol.proofs.Soundness.{sounds}
 use Rattle.protocol.specs.Calls.{turnCheck}
 use Rattle.protocol.specs.IsWellFormed.{isWellFormed}
 use Rattle.protocol.specs.WellFormed.{Size}
@@ -37,75 +41,98 @@ use Rattle.history.specs.History.{order, turn, call, run, after}
 use Rattle.history.proofs.Theorem.{keeps-table, one-table, two-turns}
 use Rattle.examples.specs.Forms.{emptyCells}
 use Rattle.examples.specs.Corollaries.{turnsOf, rounds, sixPlaces}
-use Rattle.examples.specs.Lengths.{seven, oneLooks, twoLook, onePuts, twoPut, oneInserts, twoInsert, third, OtherLengths}
+use Rattle.examples.specs.Lengths.{seven, oneLooks, twoLook, onePuts, twoPut, onePrice, twoPrices, oneInserts, twoInsert, third, OtherLengths}
 use Rattle.examples.specs.Lengths.{emptied, alsoEmptied, holding, alsoHolding, replacing, looking}
-use Rattle.examples.proofs.Corollaries.{allIn, same-in}
+use Rattle.examples.proofs.Members.{apart, allIn, leastIn, same-prices, is-least, ownLeast, own-least, same-keys, same-orders}
 
 -- ---- openings
 seven-opens : (openReply gateway 3 1 seven ≡ Accepted) × (openReply gateway 3 2 seven ≡ Accepted) × (openReply gateway 1 1 seven ≡ Accepted)
-unfolding isSound all some clear dist wrap
+unfolding isSoundTable isSound all some clear dist wrap
 seven-opens = (refl, refl, refl)
 
 three-opens : (openReply gateway 1 1 (emptyCells 3) ≡ Accepted) × (openReply gateway 1 2 (emptyCells 3) ≡ Accepted)
-unfolding isSound all some clear dist wrap
+unfolding isSoundTable isSound all some clear dist wrap
 three-opens = (refl, refl)
 
 -- ---- lists of calls are closed, and order the same keys
 looks-closed : (after gateway 3 1 seven oneLooks .closed ≡ true) × (after gateway 3 2 seven twoLook .closed ≡ true)
-unfolding turnsOf rounds run call isWellFormed isSound all some clear dist wrap count rule findStep
+unfolding turnsOf rounds run call isWellFormed isSoundTable isSound all some clear dist wrap count rule findStep
 looks-closed = (refl, refl)
 
-looks-keys : (v : ℕ) → In v (after gateway 3 1 seven oneLooks .ordered) ↔ In v (after gateway 3 2 seven twoLook .ordered)
-unfolding allIn listed turnsOf rounds run call isWellFormed isSound all some clear dist wrap count rule findStep
-looks-keys = same-in (after gateway 3 1 seven oneLooks .ordered) (after gateway 3 2 seven twoLook .ordered) tt tt
+looks-keys : SameOrders 3 label (after gateway 3 1 seven oneLooks .ordered) (after gateway 3 2 seven twoLook .ordered)
+unfolding allIn listed turnsOf rounds run call isWellFormed isSoundTable isSound all some clear dist wrap count rule findStep
+looks-keys = same-keys 3 (apart 3 1 tt) (after gateway 3 1 seven oneLooks .ordered) (after gateway 3 2 seven twoLook .ordered) tt tt
 
 puts-closed : (after gateway 1 1 (emptyCells 3) onePuts .closed ≡ true) × (after gateway 1 2 (emptyCells 3) twoPut .closed ≡ true)
-unfolding turnsOf rounds run call isWellFormed isSound all some clear dist wrap count rule insertStep
+unfolding turnsOf rounds run call isWellFormed isSoundTable isSound all some clear dist wrap count rule settled absorbed insertStep
 puts-closed = (refl, refl)
 
-puts-keys : (v : ℕ) → In v (after gateway 1 1 (emptyCells 3) onePuts .ordered) ↔ In v (after gateway 1 2 (emptyCells 3) twoPut .ordered)
-unfolding allIn listed turnsOf rounds run call isWellFormed isSound all some clear dist wrap count rule insertStep
-puts-keys = same-in (after gateway 1 1 (emptyCells 3) onePuts .ordered) (after gateway 1 2 (emptyCells 3) twoPut .ordered) tt tt
+puts-keys : SameOrders 1 label (after gateway 1 1 (emptyCells 3) onePuts .ordered) (after gateway 1 2 (emptyCells 3) twoPut .ordered)
+unfolding leastIn listed lesser least turnsOf rounds run call isWellFormed isSoundTable isSound all some clear dist wrap count rule settled absorbed insertStep
+puts-keys = same-orders 1 (after gateway 1 1 (emptyCells 3) onePuts .ordered) (after gateway 1 2 (emptyCells 3) twoPut .ordered) tt tt
 
-none-ordered : after gateway 1 1 seven (turn 0 ∷ order 0 4 ∷ turn 0 ∷ []) .ordered ≡ []
-unfolding run call isWellFormed isSound all some clear dist wrap count
+prices-closed : (after gateway 1 1 (emptyCells 3) onePrice .closed ≡ true) × (after gateway 1 2 (emptyCells 3) twoPrices .closed ≡ true)
+unfolding turnsOf rounds run call isWellFormed isSoundTable isSound all some clear dist wrap count rule settled absorbed insertStep
+prices-closed = (refl, refl)
+
+prices-keys : SameOrders 1 label (after gateway 1 1 (emptyCells 3) onePrice .ordered) (after gateway 1 2 (emptyCells 3) twoPrices .ordered)
+unfolding leastIn listed lesser least turnsOf rounds run call isWellFormed isSoundTable isSound all some clear dist wrap count rule settled absorbed insertStep
+prices-keys = same-orders 1 (after gateway 1 1 (emptyCells 3) onePrice .ordered) (after gateway 1 2 (emptyCells 3) twoPrices .ordered) tt tt
+
+none-ordered : after gateway 1 1 seven (turn 0 ∷ order 0 4 1 ∷ turn 0 ∷ []) .ordered ≡ []
+unfolding run call isWellFormed isSoundTable isSound all some clear dist wrap count
 none-ordered = refl
 
 -- ---- events
-inserts-idle : AllIdle (events.after 1 4 1 (modulo 4) (emptyCells 4) oneInserts) × AllIdle (events.after 1 4 2 (modulo 4) (emptyCells 4) twoInsert)
-unfolding noneBusy steps events.run event accepts ordered stepped rule insertStep wrap count
+inserts-idle : AllIdle (events.after 1 4 1 label (modulo 4) (emptyCells 4) oneInserts) × AllIdle (events.after 1 4 2 label (modulo 4) (emptyCells 4) twoInsert)
+unfolding noneBusy steps events.run event accepts ordered stepped rule settled absorbed insertStep wrap count
 inserts-idle = (
-  all-idle (events.after 1 4 1 (modulo 4) (emptyCells 4) oneInserts .workers) tt,
-  all-idle (events.after 1 4 2 (modulo 4) (emptyCells 4) twoInsert .workers) tt,
+  all-idle (events.after 1 4 1 label (modulo 4) (emptyCells 4) oneInserts .workers) tt,
+  all-idle (events.after 1 4 2 label (modulo 4) (emptyCells 4) twoInsert .workers) tt,
 )
 
-inserts-keys : (v : ℕ) → In v (events.after 1 4 1 (modulo 4) (emptyCells 4) oneInserts .ordered) ↔ In v (events.after 1 4 2 (modulo 4) (emptyCells 4) twoInsert .ordered)
-unfolding allIn listed steps events.run event accepts ordered stepped rule insertStep wrap count
+inserts-keys : SameOrders 1 label (events.after 1 4 1 label (modulo 4) (emptyCells 4) oneInserts .ordered)
+    (events.after 1 4 2 label (modulo 4) (emptyCells 4) twoInsert .ordered)
+unfolding leastIn listed lesser least steps events.run event accepts ordered stepped rule settled absorbed insertStep wrap count
 inserts-keys =
-    same-in (events.after 1 4 1 (modulo 4) (emptyCells 4) oneInserts .ordered) (events.after 1 4 2 (modulo 4) (emptyCells 4) twoInsert .ordered) tt tt
+    same-orders 1 (events.after 1 4 1 label (modulo 4) (emptyCells 4) oneInserts .ordered)
+    (events.after 1 4 2 label (modulo 4) (emptyCells 4) twoInsert .ordered) tt tt
+
+-- two labels are fewer than four cells
+inserts-roomy : Roomy 4 label (emptyCells 4) (events.after 1 4 1 label (modulo 4) (emptyCells 4) oneInserts)
+unfolding descending into steps events.run event accepts ordered stepped rule settled absorbed insertStep wrap count
+inserts-roomy = omega arith
 
 -- ---- tables
-seven-sound : Sound 2 (modulo 2) seven
-unfolding isSound all some clear dist wrap
-seven-sound = isSound-says 2 (modulo 2) seven tt
+seven-sound : SoundTable 2 (modulo 2) seven
+unfolding isSoundTable isSound all some clear dist wrap
+seven-sound = contents .test 2 (modulo 2) seven .0 tt
 
-four-empty-sound : Sound 4 (modulo 4) (emptyCells 4)
-unfolding isSound all some clear dist wrap
-four-empty-sound = isSound-says 4 (modulo 4) (emptyCells 4) tt
+seven-priced : PricedSound 2 label (modulo 2) seven
+seven-priced = contents .priced 2 (modulo 2) seven seven-sound
 
-below : (n x : ℕ) → modulo (suc n) x < suc n
-below n x = mod-lt x (zero-lt-suc n)
+four-empty-sound : PricedSound 4 label (modulo 4) (emptyCells 4)
+unfolding isSoundTable isSound all some clear dist wrap
+four-empty-sound = contents .priced 4 (modulo 4) (emptyCells 4) (contents .test 4 (modulo 4) (emptyCells 4) .0 tt)
 
-seven-keys : (y : ℕ) → y ≢ 0 → Holds 2 seven y ↔ In y (7 ∷ [])
-seven-keys y nz = (
-  λ h. ⊎-elim (λ e. absurd (nz e)) (λ (i : In y (7 ∷ [])). i) (held-in 2 seven y refl h),
-  λ i. in-holds 2 seven y refl (inr i),
-)
+rules : (n : ℕ) → Rules (suc n) label (modulo (suc n))
+rules n = record { blank = refl; inside = λ x. mod-lt x (zero-lt-suc n) }
+
+seven-same : SameLeast label seven (content 7 2 ∷ one 7 ∷ [])
+unfolding leastIn listed lesser least
+seven-same = same-prices seven (content 7 2 ∷ one 7 ∷ []) tt tt
+
+seven-own : (y : ℕ) → label y ≢ 0 → Holds 2 seven y → Least label seven y
+unfolding ownLeast lesser least
+seven-own y nz h = let i = held-in 2 seven y refl h in is-least seven y nz i (own-least seven seven tt y i)
+
+seven-keys : (y : ℕ) → label y ≢ 0 → Holds 2 seven y ↔ Least label (content 7 2 ∷ one 7 ∷ []) y
+seven-keys y nz = (λ h. seven-same y nz .0 (seven-own y nz h), λ l. in-holds 2 seven y refl (seven-same y nz .1 l .member))
 
 two-cells : Size gateway 2
 two-cells = (omega arith, omega arith)
 
-seven-size : size seven ≡ 1
+seven-size : size (labels label seven) ≡ 1
 unfolding descending into
 seven-size = refl
 
@@ -116,8 +143,8 @@ none-before = refl
 list-accepted : countNumber (listCall gateway seven sixPlaces) ≡ 0
 list-accepted =
     let (_, (_, (_, none))) = tables gateway gateway-proper seven sixPlaces .list in
-    let l : size seven ≤ 6 = omega (arith, seven-size) in
-    none .1 (((tt, two-cells), seven-sound), l)
+    let l : size (labels label seven) ≤ 6 = omega (arith, seven-size) in
+    none .1 (((tt, two-cells), sounds gateway seven .0 seven-sound), l)
 
 -- ---- turns: the cell touched is alike
 insert-cell : (c : ℕ) → _≡_ {A = Place} (At 1) (At c) → getD emptied c 0 ≡ getD alsoEmptied c 0
@@ -145,16 +172,19 @@ other-lengths =
       put-in =
           one-table gateway gateway gateway-proper gateway-proper 1 1 2 (emptyCells 3) (λ x. refl) (three-opens .0) (three-opens .1) onePuts twoPut puts-keys
           (puts-closed .0) (puts-closed .1);
+      put-in-prices =
+          one-table gateway gateway gateway-proper gateway-proper 1 1 2 (emptyCells 3) (λ x. refl) (three-opens .0) (three-opens .1) onePrice twoPrices
+          prices-keys (prices-closed .0) (prices-closed .1);
       one-end =
-          one-end 1 4 1 2 (inl refl) (modulo 4) (below 3) (emptyCells 4) four-empty-sound oneInserts twoInsert inserts-keys (inserts-idle .0)
-          (inserts-idle .1);
+          one-end 1 4 1 2 (inl refl) label (modulo 4) (rules 3) (emptyCells 4) four-empty-sound oneInserts twoInsert (λ _. inserts-roomy) inserts-keys
+          (inserts-idle .0) (inserts-idle .1);
       insert-turns =
           two-turns gateway replacing (third replacing) emptied alsoEmptied 0 2 (insert-pass .0) (insert-pass .1) refl refl refl insert-cell .replies;
       find-turns = two-turns gateway looking (third looking) holding alsoHolding 0 2 (find-pass .0) (find-pass .1) refl refl refl find-cell .replies;
-      one-layout = layouts 2 (modulo 2) (below 1) .unique (7 ∷ []) seven seven-sound seven-keys;
-      passes = lists .check .1 .1 .1 ((tt, two-cells), seven-sound);
-      count = lists .count-true (two-cells, seven-sound) ∙ seven-size;
-      listed = ap (λ (i : ℕ). getD (listAfter gateway seven sixPlaces) i 0) (sym none-before) ∙ lists .listed list-accepted 1 (λ z. omega arith);
-      front = ap (λ (i : ℕ). getD (listFront gateway seven sixPlaces) i 0) (sym none-before) ∙ lists .front list-accepted 1 (λ z. omega arith);
-      kept = keeps-table gateway gateway-proper 1 1 seven (seven-opens .2) .no-orders (turn 0 ∷ order 0 4 ∷ turn 0 ∷ []) none-ordered;
+      one-layout = layouts 2 label (modulo 2) (rules 1 .blank) (rules 1 .inside) .unique (content 7 2 ∷ one 7 ∷ []) seven seven-priced seven-keys;
+      passes = lists .check .1 .1 .1 ((tt, two-cells), sounds gateway seven .0 seven-sound);
+      count = lists .count-true (two-cells, sounds gateway seven .0 seven-sound) ∙ seven-size;
+      listed = ap (λ (i : ℕ). getD (listAfter gateway seven sixPlaces) i 0) (sym none-before) ∙ lists .listed list-accepted 1 (apart 7 0 tt);
+      front = ap (λ (i : ℕ). getD (listFront gateway seven sixPlaces) i 0) (sym none-before) ∙ lists .front list-accepted 1 (apart 7 0 tt);
+      kept = keeps-table gateway gateway-proper 1 1 seven (seven-opens .2) .no-orders (turn 0 ∷ order 0 4 1 ∷ turn 0 ∷ []) none-ordered;
     }

@@ -11,18 +11,22 @@ use lib.ListN.{length, getD, take, drop, length-replicate}
 use Rattle.ring.proofs.Tests.{within-says}
 use Rattle.layout.specs.Home.{modulo}
 use Rattle.layout.specs.Layout.{descending, placeAll, layout}
-use Rattle.layout.specs.Sound.{Sound, isSound}
-use Rattle.layout.proofs.Sound.{isSound-of}
+use Rattle.layout.specs.Sound.{Sound}
 use Rattle.layout.proofs.Theorem.{theorem as layouts}
 use Rattle.layout.proofs.Tests.{and-left, and-right}
-use Rattle.words.specs.Words.{occupied, keysOf, filled, group, wordOf, countOf}
+use Rattle.prices.specs.Contents.{label, cellOk, SoundTable, isSoundTable}
+use Rattle.prices.specs.Priced.{labels, pricedLayout}
+use Rattle.prices.proofs.Contents.{contents}
+use Rattle.words.specs.Words.{occupied, entriesOf, filled, group, wordOf, countOf}
 use Rattle.words.proofs.Places.{place-is, count-occupied}
 use Rattle.activities.specs.declared.Activity.{Activity}
 use Rattle.activities.specs.declared.Activity.the-variants.{Idle, Reading, Replacing, WalkingBack, SeekingForward, SeekingBack}
 use Rattle.activities.specs.declared.Worker.{Worker}
 use Rattle.rule.specs.declared.Answer.{Answer}
-use Rattle.rule.specs.Schedules.{sameTable, sameBit, closesRight}
-use Rattle.rule.proofs.Schedules.{same-table, same-bit, closes}
+use Rattle.rule.specs.declared.Answer.the-variants.{WentOn, Finished, Price, No}
+use Rattle.rule.specs.declared.Answer.the-variants as answer
+use Rattle.rule.specs.Schedules.{sameTable, closesRight}
+use Rattle.rule.proofs.Schedules.{same-table, closes}
 use Rattle.state.specs.Model.{gateway, sizeOk}
 use Rattle.state.specs.Open.{openReply, openCall}
 use Rattle.state.specs.Refusals.{replyNumber, if, firstOf}
@@ -33,7 +37,9 @@ use Rattle.state.specs.declared.Reply.the-variants.{Accepted, Refused}
 use Rattle.protocol.specs.Calls.{turnNumber, turnCall, turnTable}
 use Rattle.protocol.specs.IsWellFormed.{isWellFormed}
 use Rattle.protocol.specs.WellFormed.{WellFormed}
+use Rattle.protocol.specs.declared.TurnReply.{TurnReply}
 use Rattle.protocol.specs.declared.TurnReply.the-variants.{Answered}
+use Rattle.protocol.specs.declared.TurnReply.the-variants as turnReply
 use Rattle.protocol.proofs.Theorem.{well-formed, orders, turns, closes as closings}
 use Rattle.tables.specs.Calls.{countNumber, countValue, countedBy, ifCounted, tableBars, checkCall, listBars, listCall}
 use Rattle.tables.specs.declared.Counted.{Counted}
@@ -41,14 +47,23 @@ use Rattle.tables.specs.declared.Counted.the-variants as counted
 use Rattle.history.specs.History.{after}
 use Rattle.history.specs.History as history
 use Rattle.numbered.specs.Lists.{answersOf}
-use Rattle.numbered.specs.Numbers.{turnAnswer}
-use Rattle.numbered.proofs.Numbers as numbers
 use Rattle.examples.specs.Forms.{Example, laid, unsound, word, counting, listing, opening, empties, calling, tracing, refusing, bound, closing}
 use Rattle.examples.specs.Forms.{Told, emptyCells, alone, callsOf, answersTold, Spoilt, Unspoilt, Says, AllSay}
 
 is-true : (b : Bool) → T b → b ≡ true
 is-true true p = refl
 is-true false p = absurd p
+
+unfoldable pub sameBit : Bool → Bool → Bool
+sameBit true b = b
+sameBit false b = not b
+
+same-bit : (a b : Bool) → T (sameBit a b) → a ≡ b
+unfolding sameBit
+same-bit true true p = refl
+same-bit true false p = absurd p
+same-bit false true p = absurd p
+same-bit false false p = refl
 
 -- ---- equal activities, workers and phase states: an activity is told by its numbers
 unfoldable pub codeOf : Activity → List ℕ
@@ -57,7 +72,7 @@ codeOf (Reading v i) = 1 ∷ v ∷ i ∷ []
 codeOf (Replacing v k j x) = 2 ∷ v ∷ k ∷ j ∷ x ∷ []
 codeOf (WalkingBack v k) = 3 ∷ v ∷ k ∷ []
 codeOf (SeekingForward v k j) = 4 ∷ v ∷ k ∷ j ∷ []
-codeOf (SeekingBack v k j x p) = 5 ∷ v ∷ k ∷ j ∷ x ∷ p ∷ []
+codeOf (SeekingBack p v k j x) = 5 ∷ v ∷ k ∷ j ∷ x ∷ p ∷ []
 
 abbrev activity-of : List ℕ → Activity
 activity-of c =
@@ -68,7 +83,7 @@ activity-of c =
     ∷ Replacing (at 1) (at 2) (at 3) (at 4)
     ∷ WalkingBack (at 1) (at 2)
     ∷ SeekingForward (at 1) (at 2) (at 3)
-    ∷ SeekingBack (at 1) (at 2) (at 3) (at 4) (at 5)
+    ∷ SeekingBack (at 5) (at 1) (at 2) (at 3) (at 4)
     ∷ []
     ) (at 0) Idle
 
@@ -79,7 +94,7 @@ told-by-code (Reading v i) = refl
 told-by-code (Replacing v k j x) = refl
 told-by-code (WalkingBack v k) = refl
 told-by-code (SeekingForward v k j) = refl
-told-by-code (SeekingBack v k j x p) = refl
+told-by-code (SeekingBack p v k j x) = refl
 
 unfoldable pub sameWorkers : List Worker → List Worker → Bool
 sameWorkers [] [] = true
@@ -124,6 +139,34 @@ same-phase p q h =
       workers = workers i;
     }
 
+-- ---- equal answers: an answer is told by its numbers, and a refusal is none
+unfoldable pub answerCode : Answer → List ℕ
+answerCode WentOn = 0 ∷ []
+answerCode Finished = 1 ∷ []
+answerCode (Price q) = 2 ∷ q ∷ []
+answerCode No = 3 ∷ []
+answerCode answer.Idle = 4 ∷ []
+
+abbrev answer-of : List ℕ → Answer
+answer-of c = getD (WentOn ∷ Finished ∷ Price (getD c 1 0) ∷ No ∷ answer.Idle ∷ []) (getD c 0 0) WentOn
+
+answered-by-code : (a : Answer) → answer-of (answerCode a) ≡ a
+unfolding answerCode
+answered-by-code WentOn = refl
+answered-by-code Finished = refl
+answered-by-code (Price q) = refl
+answered-by-code No = refl
+answered-by-code answer.Idle = refl
+
+unfoldable pub answers : TurnReply → Answer → Bool
+answers (Answered a) r = sameTable (answerCode a) (answerCode r)
+answers (turnReply.Refused e) r = false
+
+same-answer : (o : TurnReply) (r : Answer) → T (answers o r) → o ≡ Answered r
+unfolding answers
+same-answer (Answered a) r p = ap Answered (sym (answered-by-code a) ∙ ap answer-of (same-table (answerCode a) (answerCode r) p) ∙ answered-by-code r)
+same-answer (turnReply.Refused e) r p = absurd p
+
 -- ---- check, count and list, with the number of labels for the count of ones
 module _ (t out : List ℕ) where
   abbrev counts : ℕ → Counted
@@ -136,12 +179,29 @@ module _ (t out : List ℕ) where
 blank-length : (n : ℕ) → length (emptyCells n) ≡ n
 blank-length n = length-replicate n 0
 
--- sound, if there are any: they are the layout of no keys
-blank-sound : (n : ℕ) → 0 < n → isSound (length (emptyCells n)) (modulo (length (emptyCells n))) (emptyCells n) ≡ true
+-- their labels are the layout of no keys, and each is 0
+blank-labels : (n : ℕ) → labels label (emptyCells n) ≡ emptyCells n
+blank-labels zero = refl
+blank-labels (suc n) = ap (λ (l : List ℕ). 0 ∷ l) (blank-labels n)
+
+blank-cell : (n j : ℕ) → getD (emptyCells n) j 0 ≡ 0
+blank-cell zero j = refl
+blank-cell (suc n) zero = refl
+blank-cell (suc n) (suc j) = blank-cell n j
+
+-- sound, if there are any
+blank-table : (n : ℕ) → 0 < n → SoundTable n (modulo n) (emptyCells n)
 unfolding layout placeAll descending
-blank-sound n some =
+blank-table n some =
     let s : Sound n (modulo n) (emptyCells n) = layouts n (modulo n) (λ x. mod-lt x some) .sound [] some in
-    rw (blank-length n) (is-true (isSound n (modulo n) (emptyCells n)) (isSound-of n (modulo n) (emptyCells n) s))
+    record {
+      paths = subst (Sound n (modulo n)) (sym (blank-labels n)) s;
+      cells = λ j _. subst (λ (c : ℕ). T (cellOk c)) (sym (blank-cell n j)) tt;
+    }
+
+blank-sound : (n : ℕ) → 0 < n → isSoundTable (length (emptyCells n)) (modulo (length (emptyCells n))) (emptyCells n) ≡ true
+blank-sound n some =
+    rw (blank-length n) (is-true (isSoundTable n (modulo n) (emptyCells n)) (contents .test n (modulo n) (emptyCells n) .1 (blank-table n some)))
 
 -- no labels
 blank-count : (n : ℕ) → occupied (emptyCells n) ≡ 0
@@ -175,7 +235,7 @@ blank-lists (suc n) out =
     let l : countOf (emptyCells (suc n)) ≤ length out = omega arith in
     rw (blank-sound (suc n) (zero-lt-suc n), le-ltb (length out) (countOf (emptyCells (suc n))) l, blank-length n)
 
-no-keys : (n : ℕ) → keysOf (emptyCells n) ≡ []
+no-keys : (n : ℕ) → entriesOf (emptyCells n) ≡ []
 no-keys zero = refl
 no-keys (suc n) = no-keys n
 
@@ -193,28 +253,28 @@ count-number c (Refused r) = refl
 
 -- ---- spoilt or not
 unspoilt : (p : Phase) → T (isWellFormed gateway p) → Unspoilt p
-unspoilt p h w v t =
+unspoilt p h w v cents t =
     let good : WellFormed gateway p = well-formed gateway p .0 (is-true (isWellFormed gateway p) h) in (
-      λ e. orders gateway p w v .answers .0 .0 e .1 good,
+      λ e. orders gateway p w v cents .answers .0 .0 e .1 good,
       λ e. turns gateway p t w .answers .0 .0 e .1 good,
       λ e. closings gateway p .answers .0 .0 e .1 good,
     )
 
 spoilt : (p : Phase) → T (not (isWellFormed gateway p)) → Spoilt p
-spoilt p h w v t =
+spoilt p h w v cents t =
     let bad : WellFormed gateway p → ⊥ = λ g. T-not (isWellFormed gateway p) h (subst T (sym (well-formed gateway p .1 g)) tt) in
-    (orders gateway p w v .answers .0 .1 (tt, bad), turns gateway p t w .answers .0 .1 (tt, bad), closings gateway p .answers .0 .1 (tt, bad))
+    (orders gateway p w v cents .answers .0 .1 (tt, bad), turns gateway p t w .answers .0 .1 (tt, bad), closings gateway p .answers .0 .1 (tt, bad))
 
 -- ---- the test
 unfoldable pub passes : Example → Bool
-passes (laid n keys t) = sameTable (layout n (modulo n) keys) t
-passes (unsound t) = not (isSound (length t) (modulo (length t)) t)
+passes (laid n es t) = sameTable (pricedLayout n label (modulo n) es) t
+passes (unsound t) = not (isSoundTable (length t) (modulo (length t)) t)
 passes (word t g w place) = eqb (wordOf (group t g)) w && eqb (occupied (take (64 * g) t)) place
 passes (counting t r c) = let a = counts t [] (occupied t) in sameTable (replyNumber (checkCall gateway t) ∷ countNumber a ∷ countValue a ∷ []) (r ∷ r ∷ c ∷ [])
 passes (listing t out r c u front) =
     let a = lists t out (occupied t) in
     sameTable (countNumber a ∷ countValue a ∷ []) (r ∷ c ∷ [])
-    && (sameTable (ifCounted a (filled t out) out) u && sameTable (ifCounted a (keysOf t) []) front)
+    && (sameTable (ifCounted a (filled t out) out) u && sameTable (ifCounted a (entriesOf t) []) front)
 passes (opening k m t r p) = let o = openCall gateway k m t in eqb (replyNumber (o .reply)) r && samePhase (o .phase) p
 passes (empties n r) = eqb (replyNumber (sized n)) r
 passes (calling k m t cs i u) =
@@ -223,8 +283,7 @@ passes (calling k m t cs i u) =
     && (s .closed && sameTable (s .counted ∷ s .table) (i ∷ u))
 passes (tracing k t a r b u) =
     let o = turnCall gateway (alone k (length t) a) t 0 in
-    samePhase (o .phase) (alone k (length t) b)
-    && sameTable (turnAnswer (o .reply) ∷ turnTable gateway (alone k (length t) a) t 0) (turnAnswer (Answered r) ∷ u)
+    samePhase (o .phase) (alone k (length t) b) && (answers (o .reply) r && sameTable (turnTable gateway (alone k (length t) a) t 0) u)
 passes (refusing p t w r) =
     let o = turnCall gateway p t w in samePhase (o .phase) p && sameTable (turnNumber (o .reply) ∷ turnTable gateway p t w) (r ∷ t)
 passes (bound p q) = isWellFormed gateway p && not (isWellFormed gateway q)
@@ -245,19 +304,19 @@ listing-says t out r c u front p =
     (countNumber (lists t out x) ≡ r)
     × (countValue (lists t out x) ≡ c)
     × (ifCounted (lists t out x) (filled t out) out ≡ u)
-    × (ifCounted (lists t out x) (keysOf t) [] ≡ front)
+    × (ifCounted (lists t out x) (entriesOf t) [] ≡ front)
     in
     let a = lists t out (occupied t) in
     let one = sameTable (countNumber a ∷ countValue a ∷ []) (r ∷ c ∷ []) in
     let two = sameTable (ifCounted a (filled t out) out) u in
-    let three = sameTable (ifCounted a (keysOf t) []) front in
+    let three = sameTable (ifCounted a (entriesOf t) []) front in
     let both = same-first (countNumber a) r _ _ (and-left one (two && three) p) in
     let q = and-right one (two && three) p in
     subst Lists (sym (count-occupied t)) (
       both .0,
       ap head (both .1),
       same-table (ifCounted a (filled t out) out) u (and-left two three q),
-      same-table (ifCounted a (keysOf t) []) front (and-right two three q),
+      same-table (ifCounted a (entriesOf t) []) front (and-right two three q),
     )
 
 counting-says : (t : List ℕ) (r c : ℕ) → T (passes (counting t r c)) → Says (counting t r c)
@@ -302,11 +361,12 @@ tracing-says k t a r b u p =
     let o = turnCall gateway (alone k (length t) a) t 0 in
     let cells = turnTable gateway (alone k (length t) a) t 0 in
     let one = samePhase (o .phase) (alone k (length t) b) in
-    let two = sameTable (turnAnswer (o .reply) ∷ cells) (turnAnswer (Answered r) ∷ u) in
-    let phase : o .phase ≡ alone k (length t) b = same-phase (o .phase) (alone k (length t) b) (and-left one two p) in
-    let e = same-first (turnAnswer (o .reply)) (turnAnswer (Answered r)) cells u (and-right one two p) in
-    let reply : o .reply ≡ Answered r = numbers.numbers-promise .turns (o .reply) (Answered r) (e .0) in
-    (λ i. record { phase = phase i; reply = reply i }, e .1)
+    let two = answers (o .reply) r in
+    let three = sameTable cells u in
+    let phase : o .phase ≡ alone k (length t) b = same-phase (o .phase) (alone k (length t) b) (and-left one (two && three) p) in
+    let q = and-right one (two && three) p in
+    let reply : o .reply ≡ Answered r = same-answer (o .reply) r (and-left two three q) in
+    (λ i. record { phase = phase i; reply = reply i }, same-table cells u (and-right two three q))
 
 refusing-says : (p : Phase) (t : List ℕ) (w r : ℕ) → T (passes (refusing p t w r)) → Says (refusing p t w r)
 unfolding passes
@@ -319,8 +379,8 @@ refusing-says p t w r h =
 
 passes-says : (e : Example) → T (passes e) → Says e
 unfolding passes
-passes-says (laid n keys t) p = same-table (layout n (modulo n) keys) t p
-passes-says (unsound t) p = λ s. T-not (isSound (length t) (modulo (length t)) t) p (isSound-of (length t) (modulo (length t)) t s)
+passes-says (laid n es t) p = same-table (pricedLayout n label (modulo n) es) t p
+passes-says (unsound t) p = λ s. T-not (isSoundTable (length t) (modulo (length t)) t) p (contents .test (length t) (modulo (length t)) t .1 s)
 passes-says (word t g w place) p =
     let one = eqb (wordOf (group t g)) w in
     let two = eqb (occupied (take (64 * g) t)) place in

@@ -1,4 +1,4 @@
--- The forms that a worked example may have, and what an example of each form says. Numbers of refusals are document 01's, 0 where there is none.
+-- The forms that a worked example may have, and what an example of each form says. Numbers of refusals are the documents', 0 where there is none.
 use mathlib.Core.Path.{_≡_}
 use mathlib.Core.Logic.{_≢_}
 use mathlib.Core.Bool.{Bool, true, false}
@@ -6,8 +6,8 @@ use mathlib.Core.List.{List, [], _∷_, map}
 use Prim.Native.Nat.{ℕ, _≤_}
 use lib.ListN.{length, set, replicate}
 use Rattle.layout.specs.Home.{modulo}
-use Rattle.layout.specs.Layout.{layout}
-use Rattle.layout.specs.Sound.{Sound}
+use Rattle.prices.specs.Contents.{label, SoundTable}
+use Rattle.prices.specs.Priced.{pricedLayout}
 use Rattle.words.specs.Words.{group, wordOf, placeOf}
 use Rattle.activities.specs.declared.Activity.{Activity}
 use Rattle.activities.specs.declared.Activity.the-variants as activity
@@ -69,15 +69,15 @@ ok c = told c 0
 abbrev pub refuses : Call → ℕ → Told
 refuses c r = told c (numbers.refused r)
 
--- a turn of worker w that answers went on, finished, yes, no or idle
+-- a turn of worker w that answers went on, finished, a price, no or idle
 abbrev pub on : ℕ → Told
 on w = told (turn w) (numbers.word 1)
 
 abbrev pub done : ℕ → Told
 done w = told (turn w) (numbers.word 2)
 
-abbrev pub found : ℕ → Told
-found w = told (turn w) (numbers.word 3)
+abbrev pub found : (w cents : ℕ) → Told
+found w cents = told (turn w) cents
 
 abbrev pub missing : ℕ → Told
 missing w = told (turn w) (numbers.word 4)
@@ -87,8 +87,8 @@ rests w = told (turn w) (numbers.word 5)
 
 -- ---- the forms
 pub data Example : Type 0 where
-  -- the layout of these keys in n cells is this table
-  laid : (n : ℕ) (keys table : List ℕ) → Example
+  -- the layout of these entries in n cells is this table
+  laid : (n : ℕ) (entries table : List ℕ) → Example
   -- the table is not sound
   unsound : (table : List ℕ) → Example
   -- the occupancy word of group g, and where the group's keys start in the list
@@ -114,14 +114,14 @@ pub data Example : Type 0 where
   closing : (s : Schedule) → Example
 
 -- ---- what an example says
--- the calls on p are refused with 13, whatever worker, key and table they get; and in no case
+-- the calls on p are refused with 13, whatever worker, key, price and table they get; and in no case
 abbrev pub Spoilt : Phase → Type 0
-Spoilt p = (w v : ℕ) (t : List ℕ)
-    → (replyNumber (orderCall gateway p w v .reply) ≡ 13) × (turnNumber (turnCall gateway p t w .reply) ≡ 13) × (replyNumber (closeCall gateway p .reply) ≡ 13)
+Spoilt p = (w v cents : ℕ) (t : List ℕ)
+    → (replyNumber (orderCall gateway p w v cents .reply) ≡ 13) × (turnNumber (turnCall gateway p t w .reply) ≡ 13) × (replyNumber (closeCall gateway p .reply) ≡ 13)
 
 abbrev pub Unspoilt : Phase → Type 0
-Unspoilt p = (w v : ℕ) (t : List ℕ)
-    → (replyNumber (orderCall gateway p w v .reply) ≢ 13) × (turnNumber (turnCall gateway p t w .reply) ≢ 13) × (replyNumber (closeCall gateway p .reply) ≢ 13)
+Unspoilt p = (w v cents : ℕ) (t : List ℕ)
+    → (replyNumber (orderCall gateway p w v cents .reply) ≢ 13) × (turnNumber (turnCall gateway p t w .reply) ≢ 13) × (replyNumber (closeCall gateway p .reply) ≢ 13)
 
 abbrev pub callsOf : List Told → List Call
 callsOf cs = map (λ (c : Told). c .call) cs
@@ -130,8 +130,8 @@ abbrev pub answersTold : List Told → List ℕ
 answersTold cs = map (λ (c : Told). c .answer) cs
 
 abbrev pub Says : Example → Type 0
-Says (laid n keys t) = layout n (modulo n) keys ≡ t
-Says (unsound t) = Sound (length t) (modulo (length t)) t → ⊥
+Says (laid n es t) = pricedLayout n label (modulo n) es ≡ t
+Says (unsound t) = SoundTable (length t) (modulo (length t)) t → ⊥
 Says (word t g w place) = (wordOf (group t g) ≡ w) × (placeOf t g ≡ place)
 Says (counting t r c) = (replyNumber (checkCall gateway t) ≡ r) × (countNumber (countCall gateway t) ≡ r) × (countValue (countCall gateway t) ≡ c)
 Says (listing t out r c u front) =

@@ -5,11 +5,12 @@ use mathlib.Core.List.{List, [], _∷_}
 use lib.ListN.{getD, set}
 use Prim.Native.Nat.{ℕ}
 use Rattle.layout.specs.Home.{modulo}
-use Rattle.layout.specs.Layout.{layout}
+use Rattle.prices.specs.Contents.{label, content}
+use Rattle.prices.specs.Priced.{pricedLayout}
 use Rattle.activities.specs.declared.Activity.the-variants.{Reading, Replacing}
 use Rattle.rule.specs.Events.{Event}
 use Rattle.rule.specs.Events as events
-use Rattle.rule.specs.Schedules.{steps}
+use Rattle.rule.specs.Schedules.{one, ones, steps}
 use Rattle.state.specs.Model.{gateway}
 use Rattle.state.specs.Refusals.{replyNumber}
 use Rattle.state.specs.declared.Phase.{Phase}
@@ -21,62 +22,70 @@ use Rattle.examples.specs.Corollaries.{rounds, sixPlaces}
 
 -- document 01's table of 2 cells with {7}
 abbrev pub seven : List ℕ
-seven = 0 ∷ 7 ∷ []
+seven = ones (0 ∷ 7 ∷ [])
 
--- ---- 7 and 4 looked up in it, by one worker and by two
+-- ---- 7 and 4 looked up in it, by one worker and by two; the prices are not read
 abbrev pub oneLooks : List Call
-oneLooks = order 0 7 ∷ rounds 2 (0 ∷ []) (order 0 4 ∷ rounds 2 (0 ∷ []) (close ∷ []))
+oneLooks = order 0 7 0 ∷ rounds 2 (0 ∷ []) (order 0 4 9 ∷ rounds 2 (0 ∷ []) (close ∷ []))
 
 abbrev pub twoLook : List Call
-twoLook = order 1 4 ∷ order 0 7 ∷ rounds 2 (1 ∷ 0 ∷ []) (close ∷ [])
+twoLook = order 1 4 1 ∷ order 0 7 5 ∷ rounds 2 (1 ∷ 0 ∷ []) (close ∷ [])
 
 -- ---- 3 and 6 put into 3 cells
 abbrev pub onePuts : List Call
-onePuts = order 0 3 ∷ rounds 2 (0 ∷ []) (order 0 6 ∷ rounds 4 (0 ∷ []) (close ∷ []))
+onePuts = order 0 3 1 ∷ rounds 2 (0 ∷ []) (order 0 6 1 ∷ rounds 4 (0 ∷ []) (close ∷ []))
 
 abbrev pub twoPut : List Call
-twoPut = order 0 6 ∷ order 1 3 ∷ rounds 8 (1 ∷ 0 ∷ []) (close ∷ [])
+twoPut = order 0 6 1 ∷ order 1 3 1 ∷ rounds 8 (1 ∷ 0 ∷ []) (close ∷ [])
 
--- ---- 1 and 5 put into 4 cells, as events
+-- ---- 6 put into 3 cells at price 4, once or also at a higher one
+abbrev pub onePrice : List Call
+onePrice = order 0 6 4 ∷ rounds 2 (0 ∷ []) (close ∷ [])
+
+abbrev pub twoPrices : List Call
+twoPrices = order 0 6 8 ∷ order 1 6 4 ∷ rounds 5 (0 ∷ 1 ∷ []) (close ∷ [])
+
+-- ---- 1 and 5 put into 4 cells, as events, with a higher price for 1 in the one list
 abbrev pub oneInserts : List Event
-oneInserts = events.order 0 1 ∷ steps 2 0 (events.order 0 5 ∷ steps 4 0 [])
+oneInserts = events.order 0 (content 1 2) ∷ steps 2 0 (events.order 0 (one 5) ∷ steps 4 0 [])
 
 abbrev pub twoInsert : List Event
-twoInsert = events.order 0 5 ∷ events.order 1 1 ∷ steps 3 0 (steps 5 1 [])
+twoInsert = events.order 0 (one 5) ∷ events.order 1 (content 1 3) ∷ steps 3 0 (steps 5 1 (events.order 0 (content 1 2) ∷ steps 3 0 []))
 
 -- ---- worker 2 of three, doing what the one worker of another phase does
 abbrev pub third : Phase → Phase
-third p = phase (p .kind) (p .length) 3 0 false (set allIdle 2 (getD (p .workers) 0 (worker (Reading 1 1))))
+third p = phase (p .kind) (p .length) 3 0 false (set allIdle 2 (getD (p .workers) 0 (worker (Reading (one 1) 1))))
 
 -- tables of 3 cells: alike in cell 1 alone, where an empty cell is replaced, or label 4 is read
 abbrev pub emptied : List ℕ
-emptied = 0 ∷ 0 ∷ 5 ∷ []
+emptied = ones (0 ∷ 0 ∷ 5 ∷ [])
 
 abbrev pub alsoEmptied : List ℕ
-alsoEmptied = 9 ∷ 0 ∷ 8 ∷ []
+alsoEmptied = ones (9 ∷ 0 ∷ 8 ∷ [])
 
 abbrev pub holding : List ℕ
-holding = 0 ∷ 4 ∷ 0 ∷ []
+holding = 0 ∷ content 4 37 ∷ 0 ∷ []
 
 abbrev pub alsoHolding : List ℕ
-alsoHolding = 6 ∷ 4 ∷ 5 ∷ []
+alsoHolding = one 6 ∷ content 4 37 ∷ one 5 ∷ []
 
 abbrev pub replacing : Phase
-replacing = alone 1 3 (Replacing 4 1 1 0)
+replacing = alone 1 3 (Replacing (one 4) 1 1 0)
 
 abbrev pub looking : Phase
-looking = alone 3 3 (Reading 4 1)
+looking = alone 3 3 (Reading (content 4 0) 1)
 
 pub record OtherLengths : Type 0 where
   pub look-up : after gateway 3 1 seven oneLooks .table ≡ after gateway 3 2 seven twoLook .table
   pub put-in : after gateway 1 1 (emptyCells 3) onePuts .table ≡ after gateway 1 2 (emptyCells 3) twoPut .table
-  pub one-end : events.after 1 4 1 (modulo 4) (emptyCells 4) oneInserts .table ≡ events.after 1 4 2 (modulo 4) (emptyCells 4) twoInsert .table
+  pub put-in-prices : after gateway 1 1 (emptyCells 3) onePrice .table ≡ after gateway 1 2 (emptyCells 3) twoPrices .table
+  pub one-end : events.after 1 4 1 label (modulo 4) (emptyCells 4) oneInserts .table ≡ events.after 1 4 2 label (modulo 4) (emptyCells 4) twoInsert .table
   -- two turns of put-in shifts, and of look-up shifts, answer alike
   pub insert-turns : turnCall gateway replacing emptied 0 .reply ≡ turnCall gateway (third replacing) alsoEmptied 2 .reply
   pub find-turns : turnCall gateway looking holding 0 .reply ≡ turnCall gateway (third looking) alsoHolding 2 .reply
-  pub one-layout : seven ≡ layout 2 (modulo 2) (7 ∷ [])
+  pub one-layout : seven ≡ pricedLayout 2 label (modulo 2) (content 7 2 ∷ one 7 ∷ [])
   pub passes : replyNumber (checkCall gateway seven) ≡ 0
   pub count : countValue (countCall gateway seven) ≡ 1
-  pub listed : getD (listAfter gateway seven sixPlaces) 0 0 ≡ 7
-  pub front : getD (listFront gateway seven sixPlaces) 0 0 ≡ 7
-  pub kept : after gateway 1 1 seven (turn 0 ∷ order 0 4 ∷ turn 0 ∷ []) .table ≡ seven
+  pub listed : getD (listAfter gateway seven sixPlaces) 0 0 ≡ one 7
+  pub front : getD (listFront gateway seven sixPlaces) 0 0 ≡ one 7
+  pub kept : after gateway 1 1 seven (turn 0 ∷ order 0 4 1 ∷ turn 0 ∷ []) .table ≡ seven

@@ -4,4 +4,5 @@ pub mod Examples
 pub mod Forms
 pub mod Lengths
 pub mod Limits
+pub mod Meanings
 pub mod Traces

@@ -3,7 +3,9 @@ use mathlib.Core.Bool.{true, false}
 use mathlib.Core.List.{List, [], _∷_, _++_}
 use Prim.Native.Nat.{ℕ}
 use lib.ListN.{length, replicate}
+use Rattle.prices.specs.Contents.{content}
 use Rattle.activities.specs.declared.Activity.the-variants.{Reading}
+use Rattle.rule.specs.Schedules.{one, ones}
 use Rattle.examples.specs.Forms.{Example, word, counting, listing, opening, empties, refusing, phase, allIdle, handedBack, alone}
 
 -- an accepted opening, with so many insert operations (put-in orders) left
@@ -21,35 +23,35 @@ lengths = empties 0 1 ∷ empties 1 1 ∷ empties 2 0 ∷ empties 8192 0 ∷ emp
 unfoldable pub openings : List Example
 openings =
     -- counts 0 and 17 get 2; 1 and 16 open
-    barred 2 0 (0 ∷ 7 ∷ []) 2
-    ∷ opens 2 1 (0 ∷ 7 ∷ []) 0
-    ∷ opens 2 16 (0 ∷ 7 ∷ []) 0
-    ∷ barred 2 17 (0 ∷ 7 ∷ []) 2
+    barred 2 0 (ones (0 ∷ 7 ∷ [])) 2
+    ∷ opens 2 1 (ones (0 ∷ 7 ∷ [])) 0
+    ∷ opens 2 16 (ones (0 ∷ 7 ∷ [])) 0
+    ∷ barred 2 17 (ones (0 ∷ 7 ∷ [])) 2
     -- kinds 1, 2 and 3 open; the put-in orders left are the empty cells less one, outside put-in shifts 0
-    ∷ barred 0 3 (0 ∷ 6 ∷ 0 ∷ 0 ∷ 9 ∷ []) 3
-    ∷ opens 1 3 (0 ∷ 6 ∷ 0 ∷ 0 ∷ 9 ∷ []) 2
-    ∷ opens 2 3 (0 ∷ 6 ∷ 0 ∷ 0 ∷ 9 ∷ []) 0
-    ∷ opens 3 3 (0 ∷ 6 ∷ 0 ∷ 0 ∷ 9 ∷ []) 0
-    ∷ barred 4 3 (0 ∷ 6 ∷ 0 ∷ 0 ∷ 9 ∷ []) 3
+    ∷ barred 0 3 (ones (0 ∷ 6 ∷ 0 ∷ 0 ∷ 9 ∷ [])) 3
+    ∷ opens 1 3 (ones (0 ∷ 6 ∷ 0 ∷ 0 ∷ 9 ∷ [])) 2
+    ∷ opens 2 3 (ones (0 ∷ 6 ∷ 0 ∷ 0 ∷ 9 ∷ [])) 0
+    ∷ opens 3 3 (ones (0 ∷ 6 ∷ 0 ∷ 0 ∷ 9 ∷ [])) 0
+    ∷ barred 4 3 (ones (0 ∷ 6 ∷ 0 ∷ 0 ∷ 9 ∷ [])) 3
     -- first to apply wins: 1, 2, 3, 4
-    ∷ barred 0 0 (3 ∷ []) 1
-    ∷ barred 4 17 (0 ∷ 6 ∷ 0 ∷ []) 2
-    ∷ barred 4 16 (0 ∷ 6 ∷ 0 ∷ []) 3
-    ∷ barred 3 16 (0 ∷ 6 ∷ 0 ∷ []) 4
+    ∷ barred 0 0 (ones (3 ∷ [])) 1
+    ∷ barred 4 17 (ones (0 ∷ 6 ∷ 0 ∷ [])) 2
+    ∷ barred 4 16 (ones (0 ∷ 6 ∷ 0 ∷ [])) 3
+    ∷ barred 3 16 (ones (0 ∷ 6 ∷ 0 ∷ [])) 4
     ∷ []
 
 -- another table, no worker, shut and spoilt: 13, 11, 5, 6
 unfoldable pub refusedTurns : List Example
 refusedTurns =
-    refusing (alone 2 5 (Reading 3 3)) (0 ∷ 0 ∷ 0 ∷ 3 ∷ []) 0 5
-    ∷ refusing (alone 2 5 (Reading 3 3)) (0 ∷ 0 ∷ 0 ∷ 3 ∷ 0 ∷ 0 ∷ []) 0 5
-    ∷ refusing (alone 2 5 (Reading 3 3)) [] 0 5
-    ∷ refusing (alone 2 5 (Reading 3 3)) (0 ∷ 0 ∷ 0 ∷ 3 ∷ []) 1 5
-    ∷ refusing (alone 2 5 (Reading 3 3)) (0 ∷ 0 ∷ 0 ∷ 3 ∷ 0 ∷ []) 1 6
-    ∷ refusing (phase 2 5 15 0 false allIdle) (0 ∷ 0 ∷ 0 ∷ 3 ∷ 0 ∷ []) 15 6
-    ∷ refusing (phase 2 5 15 0 true allIdle) (0 ∷ 0 ∷ 0 ∷ 3 ∷ 0 ∷ []) 0 11
-    ∷ refusing (phase 2 5 15 0 true allIdle) (0 ∷ 0 ∷ 0 ∷ 3 ∷ []) 16 11
-    ∷ refusing (phase 2 5 15 5 true allIdle) (0 ∷ 0 ∷ 0 ∷ 3 ∷ []) 16 13
+    refusing (alone 2 5 (Reading (one 3) 3)) (ones (0 ∷ 0 ∷ 0 ∷ 3 ∷ [])) 0 5
+    ∷ refusing (alone 2 5 (Reading (one 3) 3)) (ones (0 ∷ 0 ∷ 0 ∷ 3 ∷ 0 ∷ 0 ∷ [])) 0 5
+    ∷ refusing (alone 2 5 (Reading (one 3) 3)) [] 0 5
+    ∷ refusing (alone 2 5 (Reading (one 3) 3)) (ones (0 ∷ 0 ∷ 0 ∷ 3 ∷ [])) 1 5
+    ∷ refusing (alone 2 5 (Reading (one 3) 3)) (ones (0 ∷ 0 ∷ 0 ∷ 3 ∷ 0 ∷ [])) 1 6
+    ∷ refusing (phase 2 5 15 0 false allIdle) (ones (0 ∷ 0 ∷ 0 ∷ 3 ∷ 0 ∷ [])) 15 6
+    ∷ refusing (phase 2 5 15 0 true allIdle) (ones (0 ∷ 0 ∷ 0 ∷ 3 ∷ 0 ∷ [])) 0 11
+    ∷ refusing (phase 2 5 15 0 true allIdle) (ones (0 ∷ 0 ∷ 0 ∷ 3 ∷ [])) 16 11
+    ∷ refusing (phase 2 5 15 5 true allIdle) (ones (0 ∷ 0 ∷ 0 ∷ 3 ∷ [])) 16 13
     ∷ []
 
 -- ---- check, count and list
@@ -63,39 +65,54 @@ unlisted t out r = listing t out r 0 out []
 
 -- 66 cells with keys in the cells 1, 3, 63 and 65: the last group has two cells
 abbrev pub twoGroups : List ℕ
-twoGroups = (0 ∷ 1 ∷ 0 ∷ 3 ∷ []) ++ replicate 59 0 ++ (63 ∷ 0 ∷ 131 ∷ [])
+twoGroups = ones (0 ∷ 1 ∷ 0 ∷ 3 ∷ []) ++ replicate 59 0 ++ ones (63 ∷ 0 ∷ 131 ∷ [])
 
 unfoldable pub listings : List Example
 listings =
-    lists (4 ∷ 3 ∷ 0 ∷ 13 ∷ 8 ∷ []) (70 ∷ 71 ∷ 72 ∷ 73 ∷ 74 ∷ 75 ∷ []) (4 ∷ 3 ∷ 13 ∷ 8 ∷ 74 ∷ 75 ∷ []) (4 ∷ 3 ∷ 13 ∷ 8 ∷ [])
+    lists (ones (4 ∷ 3 ∷ 0 ∷ 13 ∷ 8 ∷ [])) (70 ∷ 71 ∷ 72 ∷ 73 ∷ 74 ∷ 75 ∷ []) (one 4 ∷ one 3 ∷ one 13 ∷ one 8 ∷ 74 ∷ 75 ∷ []) (ones (4 ∷ 3 ∷ 13 ∷ 8 ∷ []))
     -- a list just long enough, and one place too short: 12
-    ∷ lists (4 ∷ 3 ∷ 0 ∷ 13 ∷ 8 ∷ []) (70 ∷ 71 ∷ 72 ∷ 73 ∷ []) (4 ∷ 3 ∷ 13 ∷ 8 ∷ []) (4 ∷ 3 ∷ 13 ∷ 8 ∷ [])
-    ∷ unlisted (4 ∷ 3 ∷ 0 ∷ 13 ∷ 8 ∷ []) (70 ∷ 71 ∷ 72 ∷ []) 12
+    ∷ lists (ones (4 ∷ 3 ∷ 0 ∷ 13 ∷ 8 ∷ [])) (70 ∷ 71 ∷ 72 ∷ 73 ∷ []) (ones (4 ∷ 3 ∷ 13 ∷ 8 ∷ [])) (ones (4 ∷ 3 ∷ 13 ∷ 8 ∷ []))
+    ∷ unlisted (ones (4 ∷ 3 ∷ 0 ∷ 13 ∷ 8 ∷ [])) (70 ∷ 71 ∷ 72 ∷ []) 12
     -- no labels
-    ∷ lists (0 ∷ 0 ∷ 0 ∷ []) (70 ∷ []) (70 ∷ []) []
-    ∷ lists (0 ∷ 0 ∷ 0 ∷ []) [] [] []
+    ∷ lists (ones (0 ∷ 0 ∷ 0 ∷ [])) (70 ∷ []) (70 ∷ []) []
+    ∷ lists (ones (0 ∷ 0 ∷ 0 ∷ [])) [] [] []
     -- not sound: 4, also where the list is too short; length 1: 1, also where the table is not sound
-    ∷ unlisted (0 ∷ 0 ∷ 0 ∷ 8 ∷ 13 ∷ []) (70 ∷ 71 ∷ 72 ∷ []) 4
-    ∷ unlisted (0 ∷ 0 ∷ 0 ∷ 8 ∷ 13 ∷ []) (70 ∷ []) 4
-    ∷ unlisted (0 ∷ []) (70 ∷ []) 1
-    ∷ unlisted (7 ∷ []) [] 1
+    ∷ unlisted (ones (0 ∷ 0 ∷ 0 ∷ 8 ∷ 13 ∷ [])) (70 ∷ 71 ∷ 72 ∷ []) 4
+    ∷ unlisted (ones (0 ∷ 0 ∷ 0 ∷ 8 ∷ 13 ∷ [])) (70 ∷ []) 4
+    ∷ unlisted (ones (0 ∷ [])) (70 ∷ []) 1
+    ∷ unlisted (ones (7 ∷ [])) [] 1
     ∷ unlisted [] (70 ∷ []) 1
     -- two groups
-    ∷ lists twoGroups (70 ∷ 71 ∷ 72 ∷ 73 ∷ 74 ∷ []) (1 ∷ 3 ∷ 63 ∷ 131 ∷ 74 ∷ []) (1 ∷ 3 ∷ 63 ∷ 131 ∷ [])
+    ∷ lists twoGroups (70 ∷ 71 ∷ 72 ∷ 73 ∷ 74 ∷ []) (one 1 ∷ one 3 ∷ one 63 ∷ one 131 ∷ 74 ∷ []) (ones (1 ∷ 3 ∷ 63 ∷ 131 ∷ []))
     ∷ unlisted twoGroups (70 ∷ 71 ∷ 72 ∷ []) 12
     -- check and count
-    ∷ counting (4 ∷ 3 ∷ 0 ∷ 13 ∷ 8 ∷ []) 0 4
-    ∷ counting (0 ∷ 7 ∷ []) 0 1
+    ∷ counting (ones (4 ∷ 3 ∷ 0 ∷ 13 ∷ 8 ∷ [])) 0 4
+    ∷ counting (ones (0 ∷ 7 ∷ [])) 0 1
     ∷ counting twoGroups 0 4
-    ∷ counting (7 ∷ 0 ∷ []) 4 0
-    ∷ counting (8 ∷ 7 ∷ []) 4 0
-    ∷ counting (7 ∷ []) 1 0
+    ∷ counting (ones (7 ∷ 0 ∷ [])) 4 0
+    ∷ counting (ones (8 ∷ 7 ∷ [])) 4 0
+    ∷ counting (ones (7 ∷ [])) 1 0
     -- occupancy words and places: keys in the cells 0, 1 and 3; a word's highest bit is cell 63; bits past the table are 0
-    ∷ word (4 ∷ 5 ∷ 0 ∷ 3 ∷ 0 ∷ []) 0 11 0
-    ∷ word (4 ∷ 5 ∷ 0 ∷ 3 ∷ 0 ∷ []) 1 0 3
+    ∷ word (ones (4 ∷ 5 ∷ 0 ∷ 3 ∷ 0 ∷ [])) 0 11 0
+    ∷ word (ones (4 ∷ 5 ∷ 0 ∷ 3 ∷ 0 ∷ [])) 1 0 3
     ∷ word twoGroups 0 9223372036854775818 0
     ∷ word twoGroups 1 2 3
     ∷ word twoGroups 2 0 4
+    -- prices: the least and the greatest one, whole cells listed; a cell with label 0 is not taken, and makes a table unsound, as prices out of range do
+    ∷ counting (0 ∷ content 7 1 ∷ []) 0 1
+    ∷ counting (0 ∷ content 7 9999999 ∷ []) 0 1
+    ∷ counting (0 ∷ content 7 0 ∷ []) 4 0
+    ∷ counting (0 ∷ content 7 10000000 ∷ []) 4 0
+    ∷ counting (0 ∷ 7 ∷ []) 4 0
+    ∷ lists (0 ∷ 0 ∷ 0 ∷ content 8 9 ∷ content 3 7 ∷ []) (70 ∷ 71 ∷ 72 ∷ []) (content 8 9 ∷ content 3 7 ∷ 72 ∷ []) (content 8 9 ∷ content 3 7 ∷ [])
+    ∷ lists (0 ∷ content 4294967295 9999999 ∷ []) (70 ∷ 71 ∷ []) (18446744069424584319 ∷ 71 ∷ []) (18446744069424584319 ∷ [])
+    ∷ unlisted (0 ∷ 7 ∷ []) (70 ∷ 71 ∷ []) 4
+    ∷ word (content 4 9 ∷ 5 ∷ 0 ∷ content 3 0 ∷ 4294967295 ∷ []) 0 9 0
+    ∷ word (content 4 9 ∷ 5 ∷ 0 ∷ content 3 0 ∷ 4294967295 ∷ []) 1 0 2
+    ∷ barred 1 1 (0 ∷ content 7 0 ∷ []) 4
+    ∷ barred 2 1 (0 ∷ content 7 10000000 ∷ []) 4
+    ∷ barred 3 1 (0 ∷ 7 ∷ []) 4
+    ∷ opens 1 1 (0 ∷ 0 ∷ content 5 9999999 ∷ []) 1
     ∷ []
 
 abbrev pub limits : List Example

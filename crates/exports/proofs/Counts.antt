@@ -3,9 +3,11 @@ use mathlib.Core.Path.{_≡_, refl, ap, sym, _∙_}
 use mathlib.Core.List.{List}
 use Prim.Native.Nat.{ℕ, _≤_}
 use native.Mathlib.Omega.{arith}
-use lib.ListN.{length}
+use lib.ListN.{length, length-map}
 use Rattle.layout.specs.Layout.{size}
 use Rattle.layout.proofs.Sets.{size-le}
+use Rattle.prices.specs.Contents.{label}
+use Rattle.prices.specs.Priced.{labels}
 use Rattle.state.specs.Model.{gateway}
 use Rattle.state.proofs.Model.{gateway-proper}
 use Rattle.tables.specs.Calls.{countNumber, countValue, countCall, listCall}
@@ -18,13 +20,13 @@ module _ (t out : List ℕ) (c : ℕ) where
   abbrev at-rest : AtRest gateway t out
   at-rest = theorem gateway gateway-proper t out
 
-  is-count : countCall gateway t ≡ counted.Keys c → (c ≡ size t) × (length t ≤ 8192)
+  is-count : countCall gateway t ≡ counted.Keys c → (c ≡ size (labels label t)) × (length t ≤ 8192)
   is-count e =
       let (_, (_, none)) = at-rest .check in
       let ((_, sized), sound) = none .0 (sym (at-rest .count-refused) ∙ ap countNumber e) in
       (sym (ap countValue e) ∙ at-rest .count-true (sized, sound), sized .1)
 
-  is-listed : listCall gateway t out ≡ counted.Keys c → (c ≡ size t) × (length t ≤ 8192)
+  is-listed : listCall gateway t out ≡ counted.Keys c → (c ≡ size (labels label t)) × (length t ≤ 8192)
   is-listed e =
       let (_, (_, (_, none))) = at-rest .list in
       let (((_, sized), sound), _) = none .0 (ap countNumber e) in
@@ -34,6 +36,6 @@ pub counts-promise : CountsPromise
 counts-promise = record {
   keys = λ c. refl;
   refused = λ r. refl;
-  count = λ t c e. omega (arith, size-le t, is-count t t c e);
-  list = λ t out c e. omega (arith, size-le t, is-listed t out c e);
+  count = λ t c e. omega (arith, size-le (labels label t), length-map t label, is-count t t c e);
+  list = λ t out c e. omega (arith, size-le (labels label t), length-map t label, is-listed t out c e);
 }

@@ -27,10 +27,10 @@ pub record CountsPromise : Type 0 where
   pub count : (t : List ℕ) (c : ℕ) → countCall gateway t ≡ counted.Keys c → c < 2 ^ 32
   pub list : (t out : List ℕ) (c : ℕ) → listCall gateway t out ≡ counted.Keys c → c < 2 ^ 32
 
-module _ (M : Model) (k m : ℕ) (t ops workers keys out : List ℕ) where
+module _ (M : Model) (k m : ℕ) (t ops workers keys prices out : List ℕ) where
   -- the number of the opening's answer, the table after the calls, and the list lent for the answers, in which the places behind them keep their contents
   pub record RunNumbers (r : ℕ) (t′ out′ : List ℕ) : Type 0 where
     pub reply : r ≡ replyAnswer (openReply M k m t)
-    pub table : t′ ≡ after M k m t (dealt M k m t ops workers keys out) .table
+    pub table : t′ ≡ after M k m t (dealt M k m t ops workers keys prices out) .table
     pub answers : out′
-        ≡ answersOf M (dealt M k m t ops workers keys out) (opening M k m t) ++ drop (length (dealt M k m t ops workers keys out)) out
+        ≡ answersOf M (dealt M k m t ops workers keys prices out) (opening M k m t) ++ drop (length (dealt M k m t ops workers keys prices out)) out

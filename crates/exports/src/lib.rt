@@ -21,7 +21,7 @@ fn counted_answer(counted: Counted) -> u64
 
 // Whether the table is sound: 0, or the number of the refusal.
 #[no_mangle]
-pub extern "C" fn vulzegan_check(cells: &[u32]) -> u64
+pub extern "C" fn vulzegan_check(cells: &[u64]) -> u64
     ensures { λ r. ⌜ r ≡ replyAnswer (checkCall gateway (now (cells .entry))) ⌝ }
 {
     let checked = rest::check(cells);
@@ -30,16 +30,16 @@ pub extern "C" fn vulzegan_check(cells: &[u32]) -> u64
 
 // How many keys the table has.
 #[no_mangle]
-pub extern "C" fn vulzegan_count(cells: &[u32]) -> u64
+pub extern "C" fn vulzegan_count(cells: &[u64]) -> u64
     ensures { λ r. ⌜ r ≡ countedAnswer (countCall gateway (now (cells .entry))) ⌝ }
 {
     let counted = rest::count(cells);
     counted_answer(counted)
 }
 
-// Lists the keys in cell order at the front of `out`.
+// Lists the entries, each key with its price, in cell order at the front of `out`.
 #[no_mangle]
-pub extern "C" fn vulzegan_list(cells: &[u32], out: &mut [u32]) -> u64
+pub extern "C" fn vulzegan_list(cells: &[u64], out: &mut [u64]) -> u64
     ensures { λ r. ⌜ (r ≡ countedAnswer (listCall gateway (now (cells .entry)) (now (out .entry))))
         × (now (out .exit) ≡ listAfter gateway (now (cells .entry)) (now (out .entry))) ⌝ }
 {
@@ -52,17 +52,18 @@ pub extern "C" fn vulzegan_list(cells: &[u32], out: &mut [u32]) -> u64
 pub extern "C" fn vulzegan_run_calls(
     kind: u64,
     count: u64,
-    cells: &mut [u32],
+    cells: &mut [u64],
     ops: &[u32],
     workers: &[u32],
     keys: &[u32],
+    prices: &[u32],
     answers: &mut [u64],
 ) -> u64
-    ensures is_run { λ r. ⌜ RunNumbers gateway kind count (now (cells .entry)) (now (ops .entry)) (now (workers .entry)) (now (keys .entry)) (now (answers .entry))
+    ensures is_run { λ r. ⌜ RunNumbers gateway kind count (now (cells .entry)) (now (ops .entry)) (now (workers .entry)) (now (keys .entry)) (now (prices .entry)) (now (answers .entry))
         r (now (cells .exit)) (now (answers .exit)) ⌝ }
-    ensures promise { λ r. ⌜ Promised gateway kind count (now (cells .entry)) (now (ops .entry)) (now (workers .entry)) (now (keys .entry)) (now (answers .entry)) ⌝ }
+    ensures promise { λ r. ⌜ Promised gateway kind count (now (cells .entry)) (now (ops .entry)) (now (workers .entry)) (now (keys .entry)) (now (prices .entry)) (now (answers .entry)) ⌝ }
 {
-    let ran = batch::run_calls(kind, count, cells, ops, workers, keys, answers);
+    let ran = batch::run_calls(kind, count, cells, ops, workers, keys, prices, answers);
     let reply = ran.reply;
     reply_answer(reply)
 }
@@ -72,17 +73,18 @@ pub extern "C" fn vulzegan_run_calls(
 pub extern "C" fn vulzegan_run_calls_singly(
     kind: u64,
     count: u64,
-    cells: &mut [u32],
+    cells: &mut [u64],
     ops: &[u32],
     workers: &[u32],
     keys: &[u32],
+    prices: &[u32],
     answers: &mut [u64],
 ) -> u64
-    ensures is_run { λ r. ⌜ RunNumbers gateway kind count (now (cells .entry)) (now (ops .entry)) (now (workers .entry)) (now (keys .entry)) (now (answers .entry))
+    ensures is_run { λ r. ⌜ RunNumbers gateway kind count (now (cells .entry)) (now (ops .entry)) (now (workers .entry)) (now (keys .entry)) (now (prices .entry)) (now (answers .entry))
         r (now (cells .exit)) (now (answers .exit)) ⌝ }
-    ensures promise { λ r. ⌜ Promised gateway kind count (now (cells .entry)) (now (ops .entry)) (now (workers .entry)) (now (keys .entry)) (now (answers .entry)) ⌝ }
+    ensures promise { λ r. ⌜ Promised gateway kind count (now (cells .entry)) (now (ops .entry)) (now (workers .entry)) (now (keys .entry)) (now (prices .entry)) (now (answers .entry)) ⌝ }
 {
-    let ran = batch::run_calls_singly(kind, count, cells, ops, workers, keys, answers);
+    let ran = batch::run_calls_singly(kind, count, cells, ops, workers, keys, prices, answers);
     let reply = ran.reply;
     reply_answer(reply)
 }

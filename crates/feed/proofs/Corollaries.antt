@@ -1,6 +1,6 @@
 -- The corollaries, each by its promises. Premises are computed, outputs are not.
 use mathlib.Core.Path.{_≡_, refl, ap, _∙_, subst}
-use mathlib.Core.Logic.{inl, inr, ⊎-elim}
+use mathlib.Core.Logic.{_≢_, inl, inr, ⊎-elim}
 use mathlib.Core.Bool.{Bool, true, false, _||_}
 use mathlib.Core.List.{List, [], _∷_, _++_}
 use Prim.Native.Nat.{ℕ, suc}
@@ -10,14 +10,16 @@ use Rattle.ring.specs.Counting.{count}
 use Rattle.ring.specs.Ring.{wrap, dist}
 use Rattle.ring.proofs.Tests.{not-both}
 use Rattle.layout.specs.Sound.{all, some, clear, isSound}
-use Rattle.rule.specs.Rule.{insertStep, rule}
+use Rattle.prices.specs.Contents.{isSoundTable}
+use Rattle.rule.specs.Rule.{settled, absorbed, insertStep, findStep, rule}
 use Rattle.rule.specs.declared.Answer.the-variants.{Idle}
 use Rattle.state.specs.Model.{gateway}
 use Rattle.state.specs.Open.{openCall}
 use Rattle.state.specs.declared.Replied.{Replied}
 use Rattle.state.specs.declared.Reply.the-variants.{Accepted}
+use Rattle.words.specs.Words.{entriesOf}
 use Rattle.tables.specs.Calls.{checkCall}
-use Rattle.protocol.specs.Calls.{orderCall, turnCall}
+use Rattle.protocol.specs.Calls.{closeCall, orderCall, turnCall}
 use Rattle.protocol.specs.IsWellFormed.{isWellFormed}
 use Rattle.protocol.specs.declared.TurnReply.the-variants.{Answered}
 use Rattle.text.specs.Bytes.{same, byteAt, bytesOf}
@@ -26,8 +28,8 @@ use Rattle.text.specs.Fields.{fieldsOf}
 use Rattle.text.specs.Numbers.{digits, leads, valueFrom, isNumber}
 use Rattle.text.proofs.Test.{by-test}
 use Rattle.lines.specs.Grammar.{commandIn, areNumbers, numbersOf, readingOf, longestLine, keptBytes}
-use Rattle.dealing.specs.Deal.{dealTo, deal, laps, run}
-use Rattle.sheet.specs.Promise.{line, FirstIs, Unreadable, workersText, finishText, stateWith, Bad, InShut}
+use Rattle.dealing.specs.Deal.{Dealing, dealTo, deal, laps, run}
+use Rattle.sheet.specs.Promise.{line, FirstIs, Unreadable, workersText, finishText, listText, stateWith, Bad, InShut}
 use Rattle.sheet.specs.Valid.{Valid}
 use Rattle.sheet.specs.Replay.{State, blank, Answer, answerOf}
 use Rattle.sheet.proofs.Theorem.{sheet-promise}
@@ -143,7 +145,7 @@ two-plain : AllPlain (cellsLine ∷ openLine ∷ [])
 two-plain = (cells-plain, (first-plain .0, tt))
 
 open-accepted : openCall gateway 1 2 (replicate 5 0) .reply ≡ Accepted
-unfolding isSound all some clear dist wrap
+unfolding isSoundTable isSound all some clear dist wrap
 open-accepted = refl
 
 open-lead : Leads (cellsLine ∷ openLine ∷ []) openState openOut
@@ -151,13 +153,17 @@ unfolding bytesOf digitsOf digitsWithin
 open-lead = more (cellsLine ∷ []) withCells cellsOut cells-lead openLine (first-plain .0) two-plain _ refl
     (sheet-promise .shut withCells refl .opening 1 2 (omega arith) (omega arith)) openOut (rw open-accepted refl)
 
+put-in : openState .phase .kind ≡ 1
+unfolding isSoundTable isSound all some clear dist wrap
+put-in = refl
+
 open-running : openState .phase .shut ≡ false
-unfolding isSound all some clear dist wrap
+unfolding isSoundTable isSound all some clear dist wrap
 open-running = refl
 
 -- ---- behind `cells`
 check-passes : checkCall gateway (replicate 5 0) ≡ Accepted
-unfolding isSound all some clear dist wrap
+unfolding isSoundTable isSound all some clear dist wrap
 check-passes = refl
 
 abbrev listLine : List ℕ
@@ -179,19 +185,23 @@ three-plain : (l : List ℕ) → Plain l → AllPlain (cellsLine ∷ openLine �
 three-plain l p = (cells-plain, (first-plain .0, (p, tt)))
 
 worker-idle : turnCall gateway (openState .phase) (replicate 5 0) 1 .reply ≡ Answered Idle
-unfolding isWellFormed isSound all some clear dist wrap count
+unfolding isWellFormed isSoundTable isSound all some clear dist wrap count
 worker-idle = refl
 
 -- ---- two orders and a run
 abbrev first : Replied
-first = orderCall gateway (openState .phase) 0 3
+first = orderCall gateway (openState .phase) 0 3 20
 
 abbrev second : Replied
-second = orderCall gateway (first .phase) 1 8
+second = orderCall gateway (first .phase) 1 8 15
 
 orders-accepted : (first .reply ≡ Accepted) × (second .reply ≡ Accepted) × (second .phase .shut ≡ false) × (first .phase .shut ≡ false)
-unfolding isWellFormed isSound all some clear dist wrap count
+unfolding isWellFormed isSoundTable isSound all some clear dist wrap count
 orders-accepted = (refl, refl, refl, refl)
+
+put-in-still : first .phase .kind ≡ 1
+unfolding isWellFormed isSoundTable isSound all some clear dist wrap count
+put-in-still = refl
 
 abbrev firstState : State
 firstState = stateWith (first .phase) (replicate 5 0)
@@ -200,10 +210,10 @@ abbrev secondState : State
 secondState = stateWith (second .phase) (replicate 5 0)
 
 abbrev orderThree : List ℕ
-orderThree = line "order" (0 ∷ 3 ∷ [])
+orderThree = line "order" (0 ∷ 3 ∷ 20 ∷ [])
 
 abbrev orderEight : List ℕ
-orderEight = line "order" (1 ∷ 8 ∷ [])
+orderEight = line "order" (1 ∷ 8 ∷ 15 ∷ [])
 
 abbrev runLine : List ℕ
 runLine = line "run" []
@@ -223,7 +233,7 @@ unfolding bytesOf digitsOf digitsWithin
 first-lead =
     let (p, _) = orders-plain in
     more (cellsLine ∷ openLine ∷ []) openState openOut open-lead orderThree p (three-plain orderThree p) _ refl
-    (sheet-promise .opened openState open-running .order 0 3 (omega arith) (omega arith)) firstOut (rw (orders-accepted .0) refl)
+    (sheet-promise .opened openState open-running .order-priced put-in 0 3 20 (omega arith) (omega arith) (omega arith)) firstOut (rw (orders-accepted .0) refl)
 
 second-lead : Leads (cellsLine ∷ openLine ∷ orderThree ∷ orderEight ∷ []) secondState secondOut
 unfolding bytesOf digitsOf digitsWithin
@@ -231,13 +241,133 @@ second-lead =
     let (p, (q, _)) = orders-plain in
     more (cellsLine ∷ openLine ∷ orderThree ∷ []) firstState firstOut first-lead orderEight q
     (cells-plain, (first-plain .0, (p, (q, tt)))) _ refl
-    (sheet-promise .opened firstState (orders-accepted .3) .order 1 8 (omega arith) (omega arith)) secondOut
+    (sheet-promise .opened firstState (orders-accepted .3) .order-priced put-in-still 1 8 15 (omega arith) (omega arith) (omega arith)) secondOut
     (rw (orders-accepted .1) refl)
 
 -- how the workers finish
 run-told : workersText (second .phase .crew) (finishText (run gateway (second .phase) (replicate 5 0) .dealt .finishes)) ≡ bytesOf "\tdone\tdone"
-unfolding bytesOf laps deal dealTo isWellFormed rule insertStep isSound all some clear dist wrap count
+unfolding bytesOf laps deal dealTo isWellFormed rule settled absorbed insertStep isSoundTable isSound all some clear dist wrap count
 run-told = refl
+
+-- ---- the run, and the shift closed
+abbrev ran : Dealing
+ran = run gateway (second .phase) (replicate 5 0)
+
+abbrev ranState : State
+ranState = stateWith (ran .dealt .phase) (ran .table)
+
+abbrev ranOut : List ℕ
+ranOut = bytesOf "1\tok\n2\tok\n3\tok\n4\tok\n5\tdone\tdone\n"
+
+five-plain : AllPlain (cellsLine ∷ openLine ∷ orderThree ∷ orderEight ∷ runLine ∷ [])
+five-plain = (cells-plain, (first-plain .0, orders-plain))
+
+ran-lead : Leads (cellsLine ∷ openLine ∷ orderThree ∷ orderEight ∷ runLine ∷ []) ranState ranOut
+unfolding bytesOf digitsOf digitsWithin
+ran-lead =
+    let (_, (_, (r, _))) = orders-plain in
+    let up = orders-accepted .2 in
+    more (cellsLine ∷ openLine ∷ orderThree ∷ orderEight ∷ []) secondState secondOut second-lead runLine r five-plain _ refl
+    (sheet-promise .opened secondState up .run (sheet-promise .crew secondState (second-lead .valid) up .1)) ranOut (rw run-told refl)
+
+abbrev closeLine : List ℕ
+closeLine = line "close" []
+
+abbrev findLine : List ℕ
+findLine = line "open" (3 ∷ 1 ∷ [])
+
+abbrev orderFind : List ℕ
+orderFind = line "order" (0 ∷ 8 ∷ [])
+
+abbrev orderPriced : List ℕ
+orderPriced = line "order" (0 ∷ 8 ∷ 15 ∷ [])
+
+abbrev orderUnpriced : List ℕ
+orderUnpriced = line "order" (0 ∷ 3 ∷ [])
+
+last-plain : AllPlain (closeLine ∷ findLine ∷ orderFind ∷ runLine ∷ [])
+unfolding byteAt bytesOf digitsOf digitsWithin
+last-plain = (refl, (refl, (refl, (refl, tt))))
+
+misfits-plain : Plain orderPriced × Plain orderUnpriced
+unfolding byteAt bytesOf digitsOf digitsWithin
+misfits-plain = (refl, refl)
+
+abbrev closed : Replied
+closed = closeCall gateway (ran .dealt .phase)
+
+abbrev closedState : State
+closedState = stateWith (closed .phase) (ran .table)
+
+abbrev closedOut : List ℕ
+closedOut = bytesOf "1\tok\n2\tok\n3\tok\n4\tok\n5\tdone\tdone\n6\tok\n"
+
+close-accepted : (closed .reply ≡ Accepted) × (closed .phase .shut ≡ true)
+unfolding laps deal dealTo isWellFormed rule settled absorbed insertStep isSoundTable isSound all some clear dist wrap count
+close-accepted = (refl, refl)
+
+-- the table, each label with its price, is sound
+table-told : (checkCall gateway (ran .table) ≡ Accepted) × (listText (entriesOf (ran .table)) ≡ bytesOf "\t2\t8\t15\t3\t20")
+unfolding bytesOf digitsOf digitsWithin laps deal dealTo isWellFormed rule settled absorbed insertStep isSoundTable isSound all some clear dist wrap count
+table-told = (refl, refl)
+
+closed-lead : Leads (cellsLine ∷ openLine ∷ orderThree ∷ orderEight ∷ runLine ∷ closeLine ∷ []) closedState closedOut
+unfolding bytesOf digitsOf digitsWithin
+closed-lead =
+    let (p, (q, (r, _))) = orders-plain in
+    let (c, _) = last-plain in
+    more (cellsLine ∷ openLine ∷ orderThree ∷ orderEight ∷ runLine ∷ []) ranState ranOut ran-lead closeLine c
+    (cells-plain, (first-plain .0, (p, (q, (r, (c, tt)))))) _ refl (sheet-promise .either ranState .close) closedOut (rw (close-accepted .0) refl)
+
+-- ---- a look-up
+abbrev findState : State
+findState = stateWith (openCall gateway 3 1 (ran .table) .phase) (ran .table)
+
+abbrev findOut : List ℕ
+findOut = bytesOf "1\tok\n2\tok\n3\tok\n4\tok\n5\tdone\tdone\n6\tok\n7\tok\n"
+
+find-opens : (openCall gateway 3 1 (ran .table) .reply ≡ Accepted) × (findState .phase .shut ≡ false) × (findState .phase .kind ≡ 3)
+unfolding laps deal dealTo isWellFormed rule settled absorbed insertStep isSoundTable isSound all some clear dist wrap count
+find-opens = (refl, refl, refl)
+
+not-put-in : findState .phase .kind ≢ 1
+not-put-in e = omega (arith, find-opens .2)
+
+find-lead : Leads (cellsLine ∷ openLine ∷ orderThree ∷ orderEight ∷ runLine ∷ closeLine ∷ findLine ∷ []) findState findOut
+unfolding bytesOf digitsOf digitsWithin
+find-lead =
+    let (p, (q, (r, _))) = orders-plain in
+    let (c, (f, _)) = last-plain in
+    more (cellsLine ∷ openLine ∷ orderThree ∷ orderEight ∷ runLine ∷ closeLine ∷ []) closedState closedOut closed-lead findLine f
+    (cells-plain, (first-plain .0, (p, (q, (r, (c, (f, tt))))))) _ refl
+    (sheet-promise .shut closedState (close-accepted .1) .opening 3 1 (omega arith) (omega arith)) findOut (rw (find-opens .0) refl)
+
+abbrev wanted : Replied
+wanted = orderCall gateway (findState .phase) 0 8 0
+
+abbrev wantedState : State
+wantedState = stateWith (wanted .phase) (ran .table)
+
+abbrev wantedOut : List ℕ
+wantedOut = bytesOf "1\tok\n2\tok\n3\tok\n4\tok\n5\tdone\tdone\n6\tok\n7\tok\n8\tok\n"
+
+wanted-accepted : (wanted .reply ≡ Accepted) × (wanted .phase .shut ≡ false)
+unfolding laps deal dealTo isWellFormed rule settled absorbed insertStep isSoundTable isSound all some clear dist wrap count
+wanted-accepted = (refl, refl)
+
+wanted-lead : Leads (cellsLine ∷ openLine ∷ orderThree ∷ orderEight ∷ runLine ∷ closeLine ∷ findLine ∷ orderFind ∷ []) wantedState wantedOut
+unfolding bytesOf digitsOf digitsWithin
+wanted-lead =
+    let (p, (q, (r, _))) = orders-plain in
+    let (c, (f, (o, _))) = last-plain in
+    more (cellsLine ∷ openLine ∷ orderThree ∷ orderEight ∷ runLine ∷ closeLine ∷ findLine ∷ []) findState findOut find-lead orderFind o
+    (cells-plain, (first-plain .0, (p, (q, (r, (c, (f, (o, tt)))))))) _ refl
+    (sheet-promise .opened findState (find-opens .1) .order not-put-in 0 8 0 (omega arith) (omega arith)) wantedOut (rw (wanted-accepted .0) refl)
+
+found-told : workersText (wanted .phase .crew) (finishText (run gateway (wanted .phase) (ran .table) .dealt .finishes)) ≡ bytesOf "\t15"
+unfolding
+    bytesOf digitsOf digitsWithin laps deal dealTo isWellFormed rule settled absorbed insertStep findStep isSoundTable isSound all some clear dist wrap count
+found-told = refl
 
 -- ---- a leading zero
 abbrev zeroLine : List ℕ
@@ -252,9 +382,9 @@ unfolding bytesOf
 not-order l is = ⊎-elim (λ e. let z : _≡_ {A = ℕ} 99 111 = ap (λ (x : List ℕ). getD x 0 0) e in omega arith)
     (λ (rest, e). let z : _≡_ {A = ℕ} 99 111 = ap (λ (x : List ℕ). getD x 0 0) e in omega arith) is
 
-zero-unreadable : Unreadable zeroLine
+zero-unreadable : Unreadable (blank .phase .kind) zeroLine
 unfolding bytesOf
-zero-unreadable = sheet-promise .leading-zero (bytesOf "cells") [] 53 (λ z. omega arith)
+zero-unreadable = sheet-promise .leading-zero (bytesOf "cells") [] (blank .phase .kind) 53 (λ z. omega arith)
 
 zero-bad : Bad blank zeroLine
 unfolding bytesOf
@@ -273,9 +403,9 @@ above-plain : Plain aboveLine
 unfolding byteAt bytesOf
 above-plain = refl
 
-above-unreadable : Unreadable aboveLine
+above-unreadable : Unreadable (blank .phase .kind) aboveLine
 unfolding bytesOf digitsOf digitsWithin
-above-unreadable = sheet-promise .above (bytesOf "cells") (bytesOf "4294967296") 4294967296 (omega arith) (inl refl)
+above-unreadable = sheet-promise .above (bytesOf "cells") (bytesOf "4294967296") (blank .phase .kind) 4294967296 (omega arith) (inl refl)
 
 above-bad : Bad blank aboveLine
 unfolding bytesOf
@@ -287,16 +417,32 @@ unfolding byteAt bytesOf written digitsOf digitsWithin
 corollaries =
     let (openly, (orderly, _)) = first-plain in
     let (turned, again) = third-plain in
-    let (_, (_, (r, _))) = orders-plain in
-    let up = orders-accepted .2 in
+    let (o, (q, (r, _))) = orders-plain in
+    let (c, (f, _)) = last-plain in
+    let seeking = wanted-accepted .1 in
+    let finding = sheet-promise .opened findState (find-opens .1) in
     let two = cellsLine ∷ openLine ∷ [] in
     let running = sheet-promise .opened openState open-running in
     record {
       two-lines = open-lead .prints;
-      five-lines =
-          more (cellsLine ∷ openLine ∷ orderThree ∷ orderEight ∷ []) secondState secondOut second-lead runLine r (cells-plain, (openly, orders-plain)) _ refl
-          (sheet-promise .opened secondState up .run (sheet-promise .crew secondState (second-lead .valid) up .1))
-          (bytesOf "1\tok\n2\tok\n3\tok\n4\tok\n5\tdone\tdone\n") (rw run-told refl) .prints;
+      five-lines = ran-lead .prints;
+      priced-list =
+          more (cellsLine ∷ openLine ∷ orderThree ∷ orderEight ∷ runLine ∷ closeLine ∷ []) closedState closedOut closed-lead listLine list-plain
+          (cells-plain, (openly, (o, (q, (r, (c, (list-plain, tt))))))) _ refl (sheet-promise .either closedState .list (table-told .0))
+          (bytesOf "1\tok\n2\tok\n3\tok\n4\tok\n5\tdone\tdone\n6\tok\n7\t2\t8\t15\t3\t20\n")
+          (ap (λ (x : List ℕ). closedOut ++ (digitsOf 7 ++ (x ++ bytesOf "\n"))) (table-told .1)) .prints;
+      price-told =
+          more (cellsLine ∷ openLine ∷ orderThree ∷ orderEight ∷ runLine ∷ closeLine ∷ findLine ∷ orderFind ∷ []) wantedState wantedOut wanted-lead runLine r
+          (cells-plain, (openly, (o, (q, (r, last-plain))))) _ refl
+          (sheet-promise .opened wantedState seeking .run (sheet-promise .crew wantedState (wanted-lead .valid) seeking .1))
+          (bytesOf "1\tok\n2\tok\n3\tok\n4\tok\n5\tdone\tdone\n6\tok\n7\tok\n8\tok\n9\t15\n") (rw found-told refl) .prints;
+      no-price =
+          ended two openState openOut open-lead orderUnpriced (misfits-plain .1) (three-plain orderUnpriced (misfits-plain .1))
+          (running .order-misfit put-in (0 ∷ 3 ∷ []) (λ e. omega arith)) listLine list-plain;
+      needless-price =
+          ended (cellsLine ∷ openLine ∷ orderThree ∷ orderEight ∷ runLine ∷ closeLine ∷ findLine ∷ []) findState findOut find-lead orderPriced (misfits-plain .0)
+          (cells-plain, (openly, (o, (q, (r, (c, (f, (misfits-plain .0, tt)))))))) (finding .order-other-misfit not-put-in (0 ∷ 8 ∷ 15 ∷ []) (λ e. omega arith))
+          listLine list-plain;
       in-parts = feed-promise .parts (bytesOf "cel" ∷ bytesOf "ls\t5\nopen" ∷ [] ∷ bytesOf "\t1\t2\n" ∷ []) ∙ open-lead .prints;
       idle-turn =
           more two openState openOut open-lead turnLine turned (three-plain turnLine turned) _ refl (sheet-promise .either openState .turn 1 (omega arith))

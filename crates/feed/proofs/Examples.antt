@@ -4,8 +4,9 @@ use lib.Count.{ones}
 use Rattle.words.specs.Words.{placeOf}
 use Rattle.ring.specs.Ring.{wrap, probe, dist, prev}
 use Rattle.ring.specs.Counting.{tally, count}
+use Rattle.prices.specs.Contents.{isSoundTable}
 use Rattle.layout.specs.Sound.{all, some, clear, isSound}
-use Rattle.rule.specs.Rule.{insertStep, findStep, fits, narrow, deleteStep, rule}
+use Rattle.rule.specs.Rule.{settled, absorbed, insertStep, findStep, fits, narrow, deleteStep, rule}
 use Rattle.protocol.specs.IsWellFormed.{isWellFormed}
 use Rattle.text.specs.Digits.{digitsWithin, digitsOf}
 use Rattle.text.specs.Bytes.{bytesOf, same}
@@ -20,5 +21,5 @@ use Rattle.feed.specs.Examples.{SheetsPromise}
 pub sheets-promise : SheetsPromise
 unfolding
     bytesOf outputOf linesOf printedFrom answerOf readingOf commandIn same numbersOf areNumbers isNumber valueFrom leads digits fieldsOf digitsOf digitsWithin
-    laps deal dealTo isWellFormed rule insertStep findStep deleteStep fits narrow isSound all some clear dist probe prev wrap placeOf count tally ones
-sheets-promise = (refl, (refl, (refl, (refl, (refl, (refl, (refl, (refl, (refl, (refl, (refl, (refl, (refl, (refl, (refl, (refl, tt))))))))))))))))
+    laps deal dealTo isWellFormed rule settled absorbed insertStep findStep deleteStep fits narrow isSoundTable isSound all some clear dist probe prev wrap placeOf count tally ones
+sheets-promise = (refl, (refl, (refl, (refl, (refl, (refl, (refl, (refl, (refl, (refl, (refl, (refl, (refl, (refl, (refl, (refl, (refl, (refl, (refl, (refl, (refl, (refl, (refl, (refl, (refl, (refl, (refl, (refl, (refl, (refl, (refl, (refl, (refl, tt)))))))))))))))))))))))))))))))))

@@ -8,9 +8,18 @@ use Rattle.feed.specs.Feed.{begin, fed, replayed}
 use Rattle.feed.specs.Whole.{linesOf, outputOf}
 
 pub record Corollaries : Type 0 where
-  -- document 01's sheet, the first lines: each answer behind its line's number
+  -- document 01's sheet, the first lines, with prices: each answer behind its line's number
   pub two-lines : outputOf (bytesOf "cells\t5\nopen\t1\t2\n") ≡ bytesOf "1\tok\n2\tok\n"
-  pub five-lines : outputOf (bytesOf "cells\t5\nopen\t1\t2\norder\t0\t3\norder\t1\t8\nrun\n") ≡ bytesOf "1\tok\n2\tok\n3\tok\n4\tok\n5\tdone\tdone\n"
+  pub five-lines : outputOf (bytesOf "cells\t5\nopen\t1\t2\norder\t0\t3\t20\norder\t1\t8\t15\nrun\n") ≡ bytesOf "1\tok\n2\tok\n3\tok\n4\tok\n5\tdone\tdone\n"
+  -- `list` prints each label followed by its price; a look-up answers the price
+  pub priced-list : outputOf (bytesOf "cells\t5\nopen\t1\t2\norder\t0\t3\t20\norder\t1\t8\t15\nrun\nclose\nlist\n")
+      ≡ bytesOf "1\tok\n2\tok\n3\tok\n4\tok\n5\tdone\tdone\n6\tok\n7\t2\t8\t15\t3\t20\n"
+  pub price-told : outputOf (bytesOf "cells\t5\nopen\t1\t2\norder\t0\t3\t20\norder\t1\t8\t15\nrun\nclose\nopen\t3\t1\norder\t0\t8\nrun\n")
+      ≡ bytesOf "1\tok\n2\tok\n3\tok\n4\tok\n5\tdone\tdone\n6\tok\n7\tok\n8\tok\n9\t15\n"
+  -- a put-in order has a price, the others have none; another number of fields is `bad`
+  pub no-price : outputOf (bytesOf "cells\t5\nopen\t1\t2\norder\t0\t3\nlist\n") ≡ bytesOf "1\tok\n2\tok\n3\tbad\n"
+  pub needless-price : outputOf (bytesOf "cells\t5\nopen\t1\t2\norder\t0\t3\t20\norder\t1\t8\t15\nrun\nclose\nopen\t3\t1\norder\t0\t8\t15\nlist\n")
+      ≡ bytesOf "1\tok\n2\tok\n3\tok\n4\tok\n5\tdone\tdone\n6\tok\n7\tok\n8\tbad\n"
   -- in whatever parts they come
   pub in-parts : replayed begin (bytesOf "cel" ∷ bytesOf "ls\t5\nopen" ∷ [] ∷ bytesOf "\t1\t2\n" ∷ []) ≡ bytesOf "1\tok\n2\tok\n"
   -- a turn of an idle worker; a fresh table has no labels

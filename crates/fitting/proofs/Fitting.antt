@@ -62,7 +62,7 @@ performs k shut l c e =
 
 -- ---- to whom a line is, from its parts
 module _ (ns : List ℕ) (m : ℕ) where
-  pub to-order : getD ns 0 0 < m → Aim.Order (getD ns 0 0) (getD ns 1 0) ≡ aimWith Order ns m
+  pub to-order : getD ns 0 0 < m → Aim.Order (getD ns 0 0) (getD ns 1 0) (getD ns 2 0) ≡ aimWith Order ns m
   to-order h = rw (lt-ltb (getD ns 0 0) m h)
 
   pub to-turn : getD ns 0 0 < m → Aim.Turn (getD ns 0 0) ≡ aimWith Turn ns m
@@ -120,7 +120,7 @@ pub record ToWorker (k : ℕ) (shut : Bool) (l : Line) (m : ℕ) (c : Command) (
   pub below : w < m
 
 abbrev pub Aimed : ℕ → Bool → Line → ℕ → Aim → Type 0
-Aimed k shut l m (Aim.Order w v) = ToWorker k shut l m Command.Order w × (getD (l .numbers .values) 1 0 ≡ v)
+Aimed k shut l m (Aim.Order w v p) = ToWorker k shut l m Command.Order w × (getD (l .numbers .values) 1 0 ≡ v) × (getD (l .numbers .values) 2 0 ≡ p)
 Aimed k shut l m (Aim.Turn w) = ToWorker k shut l m Command.Turn w
 Aimed k shut l m Aim.Other = Unit {0}
 
@@ -136,7 +136,7 @@ module _ (k : ℕ) (l : Line) (m : ℕ) where
       → Aimed k false l m (aimWith a (l .numbers .values) m)
   aimed-with f Order e = by-test (ltb first m)
       (λ t. rw t
-      (record { asked = asked-here Command.Order (order-only k (l .command) e) refl f; worker = refl; up = refl; below = ltb-true first m t }, refl))
+      (record { asked = asked-here Command.Order (order-only k (l .command) e) refl f; worker = refl; up = refl; below = ltb-true first m t }, refl, refl))
       (λ t. rw t tt)
   aimed-with f Turn e = by-test (ltb first m)
       (λ t. rw t

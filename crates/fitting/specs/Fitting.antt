@@ -20,12 +20,17 @@ use Rattle.fitting.specs.declared.Task.{Task}
 abbrev pub rowWith : ℕ → Handling → Handling → Single → Row
 rowWith n shut opened single = record { takes = n; shut = shut; opened = opened; single = single }
 
--- by the phase's kind, on which no row depends, and the command: how many numbers it takes, what is done with it in a shut phase and in an open one, and whether it is to one
--- worker. In a shut phase `run` and every line whose first field is `order` are refused; in an open phase `cells` and `open` are bad
+-- an order has worker, label and price in a put-in shift, worker and label in the others
+abbrev pub orderNumbers : ℕ → ℕ
+orderNumbers k = cond (eqb k 1) 3 2
+
+-- by the phase's kind, on which only the numbers of an order depend, and the command: how many numbers it takes, what is done with it in a shut phase and
+-- in an open one, and whether it is to one worker. In a shut phase `run` and every line whose first field is `order` are refused; in an open phase `cells`
+-- and `open` are bad
 abbrev pub rowOf : ℕ → Command → Row
 rowOf k Command.Cells = rowWith 1 Performed Bad Neither
 rowOf k Command.Open = rowWith 2 Performed Bad Neither
-rowOf k Command.Order = rowWith 2 Barred Performed Order
+rowOf k Command.Order = rowWith (orderNumbers k) Barred Performed Order
 rowOf k Command.Turn = rowWith 1 Performed Performed Turn
 rowOf k Command.Run = rowWith 0 Refused Performed Neither
 rowOf k Command.Close = rowWith 0 Performed Performed Neither
@@ -51,9 +56,9 @@ handled Bad fits c = Reading.Bad
 abbrev pub readingIn : ℕ → Bool → Line → Reading
 readingIn k shut l = handled (handlingIn shut (rowOf k (l .command))) (fitsRow (rowOf k (l .command)) (l .numbers)) (l .command)
 
--- ---- to whom a line is: a worker that an open phase of m workers has, or anything else
+-- ---- to whom a line is: a worker that an open phase of m workers has, or anything else. The zeros behind the numbers are the price of an order without one
 abbrev pub aimWith : Single → List ℕ → ℕ → Aim
-aimWith Order ns m = cond (ltb (getD ns 0 0) m) (Aim.Order (getD ns 0 0) (getD ns 1 0)) Aim.Other
+aimWith Order ns m = cond (ltb (getD ns 0 0) m) (Aim.Order (getD ns 0 0) (getD ns 1 0) (getD ns 2 0)) Aim.Other
 aimWith Turn ns m = cond (ltb (getD ns 0 0) m) (Aim.Turn (getD ns 0 0)) Aim.Other
 aimWith Neither ns m = Aim.Other
 

@@ -37,9 +37,9 @@ pub enum Reading {
     Bad,
 }
 
-// A line to one worker of an open phase, an order or a turn; or any other line.
+// A line to one worker of an open phase, an order (worker, label and price) or a turn (worker); or any other line. An order without a price has 0.
 pub enum Aim {
-    Order(u32, u32),
+    Order(u32, u32, u32),
     Turn(u32),
     Other,
 }

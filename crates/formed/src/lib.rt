@@ -1,11 +1,13 @@
 // Which activities a worker may have, and which phase states are well formed.
 use activities::Activity;
 use activities::Worker;
+use prices::PRICES;
 use state::Phase;
 ghost use mathlib.Core.Path.{_≡_};
 ghost use mathlib.Core.Bool.{false, cond};
 ghost use mathlib.Core.List.{[], _∷_};
 ghost use lib.Dec.{eqb};
+ghost use Rattle.prices.specs.Contents.{label};
 ghost use Rattle.activities.specs.Activities.{isIdle, allBelow, activityOk};
 ghost use Rattle.state.specs.Model.{gateway};
 ghost use Rattle.protocol.specs.Bars.{allIdle};
@@ -25,11 +27,11 @@ pub fn is_idle(activity: Activity) -> bool
     }
 }
 
-// Whether a worker works for a key, not 0, and names a cell of the table.
-fn one_cell(length: u32, key: u32, cell: u32) -> bool
-    ensures { λ r. ⌜ r ≡ cond (eqb key 0) false (allBelow length (cell ∷ [])) ⌝ }
+// Whether a worker works for a key, not 0, at any price, and names a cell of the table.
+fn one_cell(length: u32, entry: u64, cell: u32) -> bool
+    ensures { λ r. ⌜ r ≡ cond (eqb (label entry) 0) false (allBelow length (cell ∷ [])) ⌝ }
 {
-    if key == 0 {
+    if entry / PRICES == 0 {
         return false;
     }
     if length <= cell {
@@ -39,10 +41,10 @@ fn one_cell(length: u32, key: u32, cell: u32) -> bool
 }
 
 // The same for two cells.
-fn two_cells(length: u32, key: u32, cell: u32, other: u32) -> bool
-    ensures { λ r. ⌜ r ≡ cond (eqb key 0) false (allBelow length (cell ∷ other ∷ [])) ⌝ }
+fn two_cells(length: u32, entry: u64, cell: u32, other: u32) -> bool
+    ensures { λ r. ⌜ r ≡ cond (eqb (label entry) 0) false (allBelow length (cell ∷ other ∷ [])) ⌝ }
 {
-    if key == 0 {
+    if entry / PRICES == 0 {
         return false;
     }
     if length <= cell {
@@ -55,10 +57,10 @@ fn two_cells(length: u32, key: u32, cell: u32, other: u32) -> bool
 }
 
 // The same for three cells.
-fn three_cells(length: u32, key: u32, cell: u32, other: u32, third: u32) -> bool
-    ensures { λ r. ⌜ r ≡ cond (eqb key 0) false (allBelow length (cell ∷ other ∷ third ∷ [])) ⌝ }
+fn three_cells(length: u32, entry: u64, cell: u32, other: u32, third: u32) -> bool
+    ensures { λ r. ⌜ r ≡ cond (eqb (label entry) 0) false (allBelow length (cell ∷ other ∷ third ∷ [])) ⌝ }
 {
-    if key == 0 {
+    if entry / PRICES == 0 {
         return false;
     }
     if length <= cell {
@@ -75,13 +77,13 @@ fn three_cells(length: u32, key: u32, cell: u32, other: u32, third: u32) -> bool
 
 // Whether a worker may have this activity.
 pub fn activity_ok(kind: u32, length: u32, activity: Activity) -> bool
-    ensures { λ r. ⌜ r ≡ activityOk kind length activity ⌝ }
+    ensures { λ r. ⌜ r ≡ activityOk kind length label activity ⌝ }
 {
     match activity {
         Activity::Idle => true,
-        Activity::Reading { key, cell } => one_cell(length, key, cell),
+        Activity::Reading { entry, cell } => one_cell(length, entry, cell),
         Activity::Replacing {
-            key,
+            entry,
             cell,
             from,
             ..
@@ -89,31 +91,31 @@ pub fn activity_ok(kind: u32, length: u32, activity: Activity) -> bool
             if kind == 3 {
                 return false;
             }
-            two_cells(length, key, cell, from)
+            two_cells(length, entry, cell, from)
         }
-        Activity::WalkingBack { key, cell } => {
+        Activity::WalkingBack { entry, cell } => {
             if kind != 2 {
                 return false;
             }
-            one_cell(length, key, cell)
+            one_cell(length, entry, cell)
         }
-        Activity::SeekingForward { key, cell, at } => {
+        Activity::SeekingForward { entry, cell, at } => {
             if kind != 2 {
                 return false;
             }
-            two_cells(length, key, cell, at)
+            two_cells(length, entry, cell, at)
         }
         Activity::SeekingBack {
-            key,
+            at,
+            entry,
             cell,
             from,
-            at,
             ..
         } => {
             if kind != 2 {
                 return false;
             }
-            three_cells(length, key, cell, from, at)
+            three_cells(length, entry, cell, from, at)
         }
     }
 }
@@ -137,7 +139,7 @@ pub fn numbers_ok(kind: u32, length: u32, crew: u32, left: u32) -> bool
 
 // Whether a worker, below the worker count or past it, may have this activity.
 pub fn worker_ok(kind: u32, length: u32, active: bool, activity: Activity) -> bool
-    ensures { λ r. ⌜ r ≡ cond active (activityOk kind length activity) (isIdle activity) ⌝ }
+    ensures { λ r. ⌜ r ≡ cond active (activityOk kind length label activity) (isIdle activity) ⌝ }
 {
     if active {
         activity_ok(kind, length, activity)

@@ -1,78 +1,137 @@
 -- What is known of the run that a history shows, said of the history.
 use mathlib.Core.Path.{_≡_, refl, sym, ap, _∙_}
-use mathlib.Core.Logic.{_≢_, _↔_, _⊎_, Iff·trans, ⊎-map}
+use mathlib.Core.Logic.{_≢_, _↔_, _⊎_, inl, inr, Iff·trans, ⊎-map, ⊎-elim}
 use mathlib.Core.Bool.{true, false}
-use mathlib.Core.List.{List}
+use mathlib.Core.List.{List, _++_, map}
 use Prim.Native.Nat.{ℕ, suc, _+_, _≤_, _<_}
 use native.Mathlib.Omega.{arith}
-use lib.Dec.{eqb}
-use lib.ListN.{length, getD, List·getD-eq-default}
+use lib.Dec.{T, eqb}
+use lib.ListN.{length, getD, length-map, List·getD-map, List·getD-eq-default}
 use borrow.Author.Tests.{ne-eqb}
 use Rattle.ring.specs.Counting.{bit, over, count}
-use Rattle.ring.proofs.Counting.{tally-ext, tally-cut, count-sum}
-use Rattle.layout.specs.Layout.{In, layout}
-use Rattle.layout.specs.Sound.{vacant, Sound}
-use Rattle.layout.proofs.Theorem as layouts
+use Rattle.ring.proofs.Counting.{tally-ext, tally-cut, count-sum, count-le}
+use Rattle.ring.proofs.Split.{by-eq}
+use Rattle.ring.proofs.Tests.{true-says}
+use Rattle.layout.specs.Layout.{In}
+use Rattle.layout.specs.Sound.{vacant}
+use Rattle.layout.proofs.Sets.{in-append}
+use Rattle.prices.specs.Contents.{label, cellOk, SoundTable}
+use Rattle.prices.specs.Priced.{labels, Least, SameLeast, pricedLayout, withoutLabels}
+use Rattle.prices.proofs.Contents.{contents}
+use Rattle.prices.proofs.Labels.{label-at, labels-append, in-withoutLabels}
+use Rattle.prices.proofs.Theorem.{theorem as layouts}
+use Rattle.activities.specs.Activities.{entryOf, idle, activityOk}
+use Rattle.activities.specs.declared.Activity.the-variants.{Idle}
+use Rattle.activities.specs.declared.Worker.{Worker}
+use Rattle.activities.proofs.Activities.{suits-says}
 use Rattle.rule.specs.Events as events
-use Rattle.activities.specs.Activities.{keyOf, activityOk}
-use Rattle.rule.specs.Events.{Said, Run, Event}
+use Rattle.rule.specs.Events.{Said, Run, Event, AllIdle}
 use Rattle.phases.specs.Promise as phases
-use Rattle.phases.specs.Promise.{mostSteps, Always, Inserts, Deletes, Finds, Phases}
+use Rattle.phases.specs.Promise.{mostSteps, Always, Roomy, Inserts, Deletes, Finds, Rules, PricesOk}
+use Rattle.phases.proofs.Roomy.{room-by}
+use Rattle.determinism.proofs.Closing.{stays-sound}
+use Rattle.determinism.proofs.Theorem as determinism
 use Rattle.state.specs.Model.{Model}
 use Rattle.state.specs.Refusals.{replyNumber}
-use Rattle.activities.specs.declared.Activity.the-variants.{Idle}
 use Rattle.protocol.specs.Bars.{doing}
 use Rattle.protocol.specs.Calls.{orderCall}
 use Rattle.protocol.specs.IsWellFormed.{isWellFormed}
 use Rattle.protocol.specs.WellFormed.{Size, Crew, Kind}
-use Rattle.ring.proofs.Tests.{true-says}
-use Rattle.protocol.proofs.Opening.{insert-allowance}
+use Rattle.protocol.proofs.Opening.{sound-vacant}
 use Rattle.protocol.proofs.Theorem.{well-formed, orders}
-use Rattle.activities.proofs.Activities.{suits-says}
 use Rattle.history.specs.History.{History}
-use Rattle.history.specs.Promise.{keysAfter, AsOpened, Carried}
+use Rattle.history.specs.Promise.{entriesAfter, AsOpened, Carried, present}
 use Rattle.history.proofs.Opening.{by-kinds}
 use Rattle.history.proofs.Simulation.{Shows}
+use Rattle.history.proofs.Standing.{price-ok, somewhere, same-entries, same-least, standing, fewer}
+use Rattle.history.proofs.Taking.{Taken}
 
 -- ---- what is known of a run, by its kind
 pub record Known (k n m : ℕ) (home : ℕ → ℕ) (t : List ℕ) (r : Run) : Type 0 where
-  pub always : Always k n m r
-  pub inserts : k ≡ 1 → Inserts n home t r
-  pub deletes : k ≡ 2 → Deletes n home t r
-  pub finds : k ≡ 3 → Finds m t r
+  pub always : Always k n m label r
+  pub room : k ≡ 1 → Roomy n label t r
+  pub inserts : k ≡ 1 → Inserts n label home t r
+  pub deletes : k ≡ 2 → Deletes n label home t r
+  pub finds : k ≡ 3 → Finds m label t r
+  pub cells : (j : ℕ) → T (cellOk (getD (r .table) j 0))
+  pub sound : AllIdle r → SoundTable n home (r .table)
 
-pub known : (k n m : ℕ) (home : ℕ → ℕ) (t : List ℕ) (es : List Event) → Kind k → Phases n m home t es → Known k n m home t (events.after k n m home t es)
-known k n m home t es e p =
-    record {
-      always = by-kinds k e (λ is. rw is (p .insert-always)) (λ is. rw is (p .delete-always)) (λ is. rw is (p .find-always));
-      inserts = λ is. rw is (p .inserts);
-      deletes = λ is. rw is (p .deletes);
-      finds = λ is. rw is (p .finds);
-    }
+kinds : (k : ℕ) → Kind k → (k ≡ 1) ⊎ (k ≡ 2) ⊎ (k ≡ 3)
+kinds k e = by-kinds k e inl (λ is. inr (inl is)) (λ is. inr (inr is))
+
+module _ (k n m : ℕ) (home : ℕ → ℕ) (hb : (x : ℕ) → home x < n) (t : List ℕ) (ok : SoundTable n home t) (kind : Kind k) where
+  rules : Rules n label home
+  rules = record { blank = refl; inside = hb }
+
+  known-of : (es : List Event) → (k ≡ 1 → Roomy n label t (events.after k n m label home t es)) → PricesOk k (events.after k n m label home t es .ordered)
+      → Known k n m home t (events.after k n m label home t es)
+  known-of es few priced =
+      let p = determinism.phases n m label home rules t (contents .priced n home t ok) es in
+      let c = stays-sound k n m (kinds k kind) home hb t ok es few priced in
+      record {
+        always = by-kinds k kind (λ is. rw is (p .insert-always (rw is at (few is)))) (λ is. rw is (p .delete-always)) (λ is. rw is (p .find-always));
+        room = few;
+        inserts = λ is. rw is (p .inserts (rw is at (few is)));
+        deletes = λ is. rw is (p .deletes);
+        finds = λ is. rw is (p .finds);
+        cells = c .cells;
+        sound = c .closed;
+      }
+
+  -- the accepted orders leave room, also if they are as many as may be
+  pub roomy : (s : History) (r : Run) → Shows k n m s r → Taken k (vacant t) s → k ≡ 1 → Roomy n label t r
+  roomy s r h b is =
+      room-by n label home rules t (contents .priced n home t ok) r (omega (arith, b .left is, ap length (h .ordered), sound-vacant n home t ok))
+
+  -- and have prices that a label can have
+  pub known : (es : List Event) (s : History) → Shows k n m s (events.after k n m label home t es) → Taken k (vacant t) s
+      → Known k n m home t (events.after k n m label home t es)
+  known es s h b = known-of es (roomy s (events.after k n m label home t es) h b)
+      (λ is v i. let (low, high) = b .entries v (rw (h .ordered) i) .priced is in price-ok _ low high)
 
 -- ---- said of a history that shows the run
-module _ (k n m : ℕ) (home : ℕ → ℕ) (t : List ℕ) (s : History) (r : Run) (h : Shows k n m s r) (g : Known k n m home t r) where
-  -- a closed phase has come to rest
-  pub closed : ((x : ℕ) → home x < n) → Sound n home t → Kind k → s .closed ≡ true → s .table ≡ layout n home (keysAfter k (s .ordered) t)
-  closed hb sound e c = rw (h .table, h .ordered)
-      (by-kinds k e
+module _ (k n m : ℕ) (home : ℕ → ℕ) (hb : (x : ℕ) → home x < n) (t : List ℕ) (ok : SoundTable n home t) (kind : Kind k)
+    (s : History) (r : Run) (h : Shows k n m s r) (g : Known k n m home t r) (b : Taken k (vacant t) s) where
+  -- ---- a closed phase has come to rest
+  pub closed : s .closed ≡ true → s .table ≡ pricedLayout n label home (entriesAfter k (s .ordered) t)
+  closed c = rw (h .table, h .ordered)
+      (by-kinds k kind
       (λ is. rw is (g .inserts is .at-rest (h .rest c)))
       (λ is. rw is (g .deletes is .at-rest (h .rest c)))
-      (λ is. rw is (g .finds is .unchanged ∙ layouts.theorem n home hb .own t sound)))
+      (λ is. rw is (g .finds is .unchanged ∙ layouts n label home refl hb .own t (contents .priced n home t ok))))
 
+  pub cells : (j : ℕ) → T (cellOk (getD (s .table) j 0))
+  cells j = rw (h .table) (g .cells j)
+
+  pub cheapest : k ≡ 1 → s .closed ≡ true → (y : ℕ) → label y ≢ 0 → In y (s .table) ↔ Least label (s .ordered ++ t) y
+  cheapest is c = rw (h .table, h .ordered) (standing n home hb (r .ordered ++ t) (r .table) (g .room is) (g .inserts is .at-rest (h .rest c)))
+
+  pub remaining : k ≡ 2 → s .closed ≡ true → (y : ℕ) → label y ≢ 0 → In y (s .table) ↔ (In y t × (In (label y) (labels label (s .ordered)) → ⊥))
+  remaining is c y nz = rw (h .table, h .ordered) (
+    λ i. in-withoutLabels label (r .ordered) t y .0 (standing n home hb (withoutLabels label (r .ordered) t) (r .table) (fewer n home hb (r .ordered) t ok)
+        (g .deletes is .at-rest (h .rest c)) y nz .0 i .member),
+    λ (i, out). g .deletes is .kept y nz i out,
+  )
+
+  -- ---- the phase state
   past-idle : (w : ℕ) → m ≤ w → getD (r .workers) w Idle ≡ Idle
   past-idle w l = List·getD-eq-default (r .workers) Idle (omega (arith, h .crew .all))
 
-  pub formed : (M : Model) → Size M n → Crew M m → Kind k → isWellFormed M (s .phase) ≡ true
-  formed M a b c = well-formed M (s .phase) .1
+  few-left : s .phase .left < n
+  few-left = by-eq k 1
+      (λ is. omega (arith, b .left is, count-le (λ x. eqb x 0) t, length-map t label, ok .paths .sized))
+      (λ ne. omega (arith, b .none-left ne, hb 0))
+
+  pub formed : (M : Model) → Size M n → Crew M m → isWellFormed M (s .phase) ≡ true
+  formed M size crew = well-formed M (s .phase) .1
       (record {
-        kind = rw (h .kind) c;
-        size = rw (h .cells) a;
-        crew = rw (h .count) b;
-        left = omega (arith, h .few, h .cells);
+        kind = rw (h .kind) kind;
+        size = rw (h .cells) size;
+        crew = rw (h .count) crew;
+        left = omega (arith, few-left, h .cells);
         past = λ w l. h .crew .same w ∙ past-idle w (omega (arith, h .count));
         workers = λ w _. let x = getD (r .workers) w Idle in
-            rw (h .crew .same w, h .kind, h .cells) (suits-says k n x .0 (true-says (activityOk k n x) .1 (g .always .formed w)));
+            rw (h .crew .same w, h .kind, h .cells) (suits-says k n label x .0 (true-says (activityOk k n label x) .1 (g .always .formed w)));
       })
 
   pub bounded : s .counted < mostSteps n m (length (s .ordered))
@@ -81,39 +140,78 @@ module _ (k n m : ℕ) (home : ℕ → ℕ) (t : List ℕ) (s : History) (r : Ru
   pub as-opened : AsOpened k n m s
   as-opened = record { kind = h .kind; cells = h .cells; crew = h .count; sized = rw (h .table) (g .always .sized) }
 
-  pub left : Sound n home t → k ≡ 1 → suc (length (s .ordered) + s .phase .left) ≡ vacant t
-  left sound is = omega (arith, ap length (h .ordered), h .left, g .inserts is .operations, insert-allowance 1 n home t sound refl)
-
-  pub full : (M : Model) → Size M n → Crew M m → Kind k → Sound n home t → (w v : ℕ)
-      → replyNumber (orderCall M (s .phase) w v .reply) ≡ 9
-      ↔ ((k ≡ 1) × (suc (length (s .ordered)) ≡ vacant t) × (s .closed ≡ false) × (w < m) × (doing (s .phase) w ≡ Idle) × (v ≢ 0))
-  full M a b c sound w v =
-      let (_, (_, (_, (_, (_, (nine, _)))))) = orders M (s .phase) w v .answers in (
-        λ e. let ((((((_, _), up), below), free), key), (is, none)) = nine .0 e in
+  pub full : (M : Model) → Size M n → Crew M m → (w v cents : ℕ)
+      → replyNumber (orderCall M (s .phase) w v cents .reply) ≡ 9
+      ↔ ((k ≡ 1) × (suc (length (s .ordered)) ≡ vacant t) × (s .closed ≡ false)
+      × (w < m) × (doing (s .phase) w ≡ Idle) × (v ≢ 0) × (1 ≤ cents) × (cents ≤ 9999999))
+  full M size crew w v cents =
+      let (_, (_, (_, (_, (_, (_, (nine, _))))))) = orders M (s .phase) w v cents .answers in (
+        λ e. let (((((((_, _), up), below), free), key), priced), (is, none)) = nine .0 e in
             let one : k ≡ 1 = omega (arith, h .kind) in
-            (one, omega (arith, left sound one), sym (h .shut) ∙ up, omega (arith, h .count), free, key),
-        λ (one, all, up, below, free, key). nine .1 (
-          (((((tt, well-formed M (s .phase) .0 (formed M a b c)), h .shut ∙ up), omega (arith, h .count)), free), key),
-          (h .kind ∙ one, omega (arith, left sound one)),
+            let (low, high) = priced is in
+            (one, omega (arith, b .left one), sym (h .shut) ∙ up, omega (arith, h .count), free, key, low, high),
+        λ (one, all, up, below, free, key, low, high). nine .1 (
+          ((((((tt, well-formed M (s .phase) .0 (formed M size crew)), h .shut ∙ up), omega (arith, h .count)), free), key), λ _. (low, high)),
+          (h .kind ∙ one, omega (arith, b .left one)),
         ),
       )
 
-  carried : (v : ℕ) → Carried s v ↔ phases.Carried r v
-  carried v = (λ (w, is). (w, ap keyOf (sym (h .crew .same w)) ∙ is), λ (w, is). (w, ap keyOf (h .crew .same w) ∙ is))
+  -- ---- what the workers carry
+  -- place by place
+  carried-at : (w : ℕ) → getD (map (λ (x : Worker). entryOf (x .activity)) (s .phase .workers)) w 0 ≡ getD (map entryOf (r .workers)) w 0
+  carried-at w =
+      List·getD-map (λ (x : Worker). entryOf (x .activity)) (s .phase .workers) w idle
+      ∙ ap entryOf (h .crew .same w)
+      ∙ sym (List·getD-map entryOf (r .workers) w Idle)
 
-  pub union : k ≡ 1 → (v : ℕ) → v ≢ 0 → (In v (s .table) ⊎ Carried s v) ↔ (In v t ⊎ In v (s .ordered))
-  union is v nz = rw (h .table, h .ordered)
-      (Iff·trans (⊎-map (λ i. i) (carried v .0), ⊎-map (λ i. i) (carried v .1)) (g .inserts is .union v nz))
+  -- with what stands in the table
+  present-same : (y : ℕ) → y ≢ 0 → In y (present s) ↔ In y (phases.present r)
+  present-same y nz =
+      let xs : List ℕ = map (λ (x : Worker). entryOf (x .activity)) (s .phase .workers) in
+      let ys : List ℕ = map entryOf (r .workers) in
+      let c = same-entries xs ys carried-at y nz in
+      rw (h .table) (
+        λ i. in-append (r .table) ys y .1 (⊎-map (λ j. j) (c .0) (in-append (r .table) xs y .0 i)),
+        λ i. in-append (r .table) xs y .1 (⊎-map (λ j. j) (c .1) (in-append (r .table) ys y .0 i)),
+      )
 
-  -- in a find phase the keys of unfinished operations are those that the workers look for
-  unfinished : k ≡ 3 → (v : ℕ) → v ≢ 0 → count (λ x. eqb x v) (s .pending) ≡ over (λ _ a. bit (eqb (keyOf a) v)) Idle m (r .workers)
+  pub prices : k ≡ 1 → SameLeast label (present s) (s .ordered ++ t)
+  prices is y nz = rw (h .ordered) (Iff·trans (same-least (present s) (phases.present r) present-same y nz) (g .inserts is .prices y nz))
+
+  pub only : k ≡ 1 → (y : ℕ) → label y ≢ 0 → In y (present s) → In y (s .ordered ++ t)
+  only is y nz i = rw (h .ordered) (g .inserts is .only y nz (present-same y (λ z. nz (ap label z)) .0 i))
+
+  carried : (v : ℕ) → v ≢ 0 → Carried s v ↔ In v (labels label (map entryOf (r .workers)))
+  carried v nz =
+      let ys : List ℕ = map entryOf (r .workers) in
+      let at : (w : ℕ) → getD (labels label ys) w 0 ≡ label (entryOf (doing (s .phase) w))
+      = λ w. label-at label refl ys w ∙ ap label (List·getD-map entryOf (r .workers) w Idle) ∙ ap (λ a. label (entryOf a)) (sym (h .crew .same w)) in
+      let p = somewhere (labels label ys) v nz in (λ (w, is). p .1 (w, at w ∙ is), λ i. let (w, is) = p .0 i in (w, sym (at w) ∙ is))
+
+  pub union : k ≡ 1 → (v : ℕ) → v ≢ 0
+      → (In v (labels label (s .table)) ⊎ Carried s v) ↔ (In v (labels label t) ⊎ In v (labels label (s .ordered)))
+  union is v nz =
+      let ys : List ℕ = map entryOf (r .workers) in
+      let here = in-append (labels label (r .table)) (labels label ys) v in
+      let there = in-append (labels label (r .ordered)) (labels label t) v in
+      let u : In v (labels label (r .table) ++ labels label ys) ↔ In v (labels label (r .ordered) ++ labels label t)
+      = rw (← labels-append label (r .table) ys, ← labels-append label (r .ordered) t) (g .inserts is .union v nz) in
+      rw (h .table, h .ordered) (
+        λ i. ⊎-elim inr inl (there .0 (u .0 (here .1 (⊎-map (λ j. j) (carried v nz .0) i)))),
+        λ i. ⊎-map (λ j. j) (carried v nz .1) (here .0 (u .1 (there .1 (⊎-elim inr inl i)))),
+      )
+
+  -- ---- look up
+  -- the entries of unfinished operations are those that the workers look for
+  unfinished : k ≡ 3 → (v : ℕ) → v ≢ 0 → count (λ x. eqb (label x) v) (s .pending) ≡ over (λ _ a. bit (eqb (label (entryOf a)) v)) Idle m (r .workers)
   unfinished is v nz =
-      count-sum (λ x. eqb x v) (s .pending) 0
-      ∙ tally-cut (λ i. bit (eqb (getD (s .pending) i 0) v)) m (length (s .pending)) (h .crew .places)
-      (λ i l. rw (h .crew .agree i .key is, past-idle i l, ne-eqb 0 v (λ z. nz (sym z))))
-      ∙ tally-ext (λ i. bit (eqb (getD (s .pending) i 0) v)) (λ i. bit (eqb (keyOf (getD (r .workers) i Idle)) v)) m
-      (λ i _. ap (λ x. bit (eqb x v)) (h .crew .agree i .key is))
+      count-sum (λ x. eqb (label x) v) (s .pending) 0
+      ∙ tally-cut (λ i. bit (eqb (label (getD (s .pending) i 0)) v)) m (length (s .pending)) (h .crew .places)
+      (λ i l. rw (h .crew .agree i .entry is, past-idle i l, ne-eqb 0 v (λ z. nz (sym z))))
+      ∙ tally-ext (λ i. bit (eqb (label (getD (s .pending) i 0)) v)) (λ i. bit (eqb (label (entryOf (getD (r .workers) i Idle))) v)) m
+      (λ i _. ap (λ x. bit (eqb (label x) v)) (h .crew .agree i .entry is))
 
   pub each : k ≡ 3 → (v : ℕ) → v ≢ 0
-      → count (λ (a : Said). eqb (a .key) v) (s .said) + count (λ x. eqb x v) (s .pending) ≡ count (λ x. eqb x v) (s .ordered)
+      → count (λ (a : Said). eqb (label (a .wanted)) v) (s .said) + count (λ x. eqb (label x) v) (s .pending)
+      ≡ count (λ x. eqb (label x) v) (s .ordered)
   each is v nz = rw (h .said is, h .ordered, unfinished is v nz) (g .finds is .each v nz)

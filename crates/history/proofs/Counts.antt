@@ -9,9 +9,10 @@ use lib.ListN.{getD}
 use borrow.Author.Tests.{lt-ltb}
 use Rattle.ring.specs.Counting.{bit, count}
 use Rattle.ring.proofs.Split.{by-eq}
+use Rattle.prices.specs.Contents.{label}
 use Rattle.rule.specs.Events.{Run, Event, event}
 use Rattle.rule.specs.declared.Answer.{Answer}
-use Rattle.rule.specs.declared.Answer.the-variants.{WentOn, Finished, Yes, No}
+use Rattle.rule.specs.declared.Answer.the-variants.{WentOn, Finished, Price, No}
 use Rattle.rule.specs.declared.Answer.the-variants as answer
 use Rattle.state.specs.Model.{Model}
 use Rattle.state.specs.declared.Phase.{Phase}
@@ -23,14 +24,14 @@ use Rattle.protocol.proofs.Theorem.{turns}
 use Rattle.history.specs.History.{Call, order, turn, close, History, afterTurn, worked, call, run, turnReplies}
 use Rattle.history.proofs.Simulation.{Shows, unfinished-says, follows}
 
--- x is the key of an unfinished operation: an answer is idle exactly if there is none
+-- x is the entry of an unfinished operation: an answer is idle exactly if there is none
 worked-says : (a : Answer) (x : ℕ) → (a ≡ answer.Idle) ↔ (x ≡ 0) → bit (ltb 0 x) ≡ bit (worked (turnReply.Answered a))
 worked-says a x h = by-eq x 0 (λ z. let i : a ≡ answer.Idle = h .1 z in rw (z, i)) (λ nz. rw (lt-ltb 0 x (omega arith)) (busy a (λ i. nz (h .0 i))))
   where
     busy : (b : Answer) → (b ≡ answer.Idle → ⊥) → 1 ≡ bit (worked (turnReply.Answered b))
     busy WentOn _ = refl
     busy Finished _ = refl
-    busy Yes _ = refl
+    busy (Price q) _ = refl
     busy No _ = refl
     busy answer.Idle no-idle = absurd (no-idle refl)
 
@@ -51,9 +52,9 @@ module _ (M : Model) (k n m : ℕ) where
       (λ a e. let i = turns M (s .phase) (s .table) w .answered a e .idle in
       let x = unfinished-says h w in (λ b. x .1 (i .0 b), λ z. i .1 (x .0 z)))
 
-  order-counts : (w v : ℕ) (s : History) → call M (order w v) s .counted ≡ s .counted
+  order-counts : (w v cents : ℕ) (s : History) → call M (order w v cents) s .counted ≡ s .counted
   unfolding call
-  order-counts w v s = by-reply (orderReply M (s .phase) w v) (λ e. rw e) (λ _ e. rw e)
+  order-counts w v cents s = by-reply (orderReply M (s .phase) w v cents) (λ e. rw e) (λ _ e. rw e)
 
   close-counts : (s : History) → call M close s .counted ≡ s .counted
   unfolding call
@@ -65,7 +66,7 @@ module _ (M : Model) (k n m : ℕ) where
 
   one-more : (c : Call) (cs : List Call) (s : History) (r : Run) → Shows k n m s r → Counts cs (call M c s) → Counts (c ∷ cs) s
   unfolding run turnReplies count
-  one-more (order w v) cs s r h e = omega (arith, order-counts w v s)
+  one-more (order w v cents) cs s r h e = omega (arith, order-counts w v cents s)
   one-more (turn w) cs s r h e = omega (arith, turn-counts w s r h)
   one-more close cs s r h e = omega (arith, close-counts s)
 
@@ -75,7 +76,7 @@ module _ (M : Model) (k n m : ℕ) where
   from (c ∷ cs) s r h = one-more c cs s r h
       (⊎-elim
       (λ (g : Shows k n m (call M c s) r). from cs (call M c s) r g)
-      (λ (g : (e : Event) × Shows k n m (call M c s) (event k n (M .home n) e r)). from cs (call M c s) (event k n (M .home n) (g .0) r) (g .1))
+      (λ (g : (e : Event) × Shows k n m (call M c s) (event k n label (M .home n) e r)). from cs (call M c s) (event k n label (M .home n) (g .0) r) (g .1))
       (follows M k n m c s r h))
 
   -- from a history without counted turns on

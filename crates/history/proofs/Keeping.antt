@@ -6,7 +6,7 @@ use Rattle.state.specs.Model.{Model}
 use Rattle.state.specs.declared.Phase.{Phase}
 use Rattle.state.specs.declared.Reply.{Reply}
 use Rattle.state.specs.declared.Reply.the-variants.{Accepted, Refused}
-use Rattle.protocol.specs.Calls.{closeCall, orderCall, turnCall, turnTable}
+use Rattle.protocol.specs.Calls.{entryFor, closeCall, orderCall, turnCall, turnTable}
 use Rattle.protocol.specs.declared.TurnReply.{TurnReply}
 use Rattle.protocol.specs.declared.TurnReply.the-variants as turnReply
 use Rattle.protocol.specs.WellFormed.{WellFormed}
@@ -14,13 +14,13 @@ use Rattle.protocol.proofs.Keeping.{order-keeps, turn-keeps, close-keeps}
 use Rattle.history.specs.History.{Call, order, turn, close, History, afterOrder, afterTurn, afterClose, call}
 
 -- ---- whatever the answer, the phase and the table are those given
-pub order-phase : (w v : ℕ) (p : Phase) (r : Reply) (s : History) → afterOrder w v p r s .phase ≡ p
-order-phase w v p Accepted s = refl
-order-phase w v p (Refused r) s = refl
+pub order-phase : (w e : ℕ) (p : Phase) (r : Reply) (s : History) → afterOrder w e p r s .phase ≡ p
+order-phase w e p Accepted s = refl
+order-phase w e p (Refused r) s = refl
 
-pub order-table : (w v : ℕ) (p : Phase) (r : Reply) (s : History) → afterOrder w v p r s .table ≡ s .table
-order-table w v p Accepted s = refl
-order-table w v p (Refused r) s = refl
+pub order-table : (w e : ℕ) (p : Phase) (r : Reply) (s : History) → afterOrder w e p r s .table ≡ s .table
+order-table w e p Accepted s = refl
+order-table w e p (Refused r) s = refl
 
 pub turn-phase : (w : ℕ) (t : List ℕ) (p : Phase) (r : TurnReply) (s : History) → afterTurn w t p r s .phase ≡ p
 turn-phase w t p (turnReply.Answered a) s = refl
@@ -29,6 +29,10 @@ turn-phase w t p (turnReply.Refused r) s = refl
 pub turn-table : (w : ℕ) (t : List ℕ) (p : Phase) (r : TurnReply) (s : History) → afterTurn w t p r s .table ≡ t
 turn-table w t p (turnReply.Answered a) s = refl
 turn-table w t p (turnReply.Refused r) s = refl
+
+pub turn-ordered : (w : ℕ) (t : List ℕ) (p : Phase) (r : TurnReply) (s : History) → afterTurn w t p r s .ordered ≡ s .ordered
+turn-ordered w t p (turnReply.Answered a) s = refl
+turn-ordered w t p (turnReply.Refused r) s = refl
 
 pub close-phase : (p : Phase) (r : Reply) (s : History) → afterClose p r s .phase ≡ p
 close-phase p Accepted s = refl
@@ -42,8 +46,9 @@ close-table p (Refused r) s = refl
 pub call-keeps : (M : Model) (c : Call) (s : History) → ((v : ℕ) → M .home (s .phase .length) v < s .phase .length)
     → WellFormed M (s .phase) → WellFormed M (call M c s .phase)
 unfolding call
-call-keeps M (order w v) s at-home good =
-    rw (order-phase w v (orderCall M (s .phase) w v .phase) (orderCall M (s .phase) w v .reply) s) (order-keeps M (s .phase) good w v (at-home v))
+call-keeps M (order w v cents) s at-home good =
+    let r = orderCall M (s .phase) w v cents in
+    rw (order-phase w (entryFor (s .phase .kind) v cents) (r .phase) (r .reply) s) (order-keeps M (s .phase) good w v cents (at-home v))
 call-keeps M (turn w) s at-home good =
     let t = turnTable M (s .phase) (s .table) w in
     let r = turnCall M (s .phase) (s .table) w in

@@ -6,6 +6,8 @@ pub mod Opening
 pub mod Pending
 pub mod Refused
 pub mod Simulation
+pub mod Standing
+pub mod Taking
 pub mod Theorem
 pub mod Turns
 pub mod Unordered

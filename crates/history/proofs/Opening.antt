@@ -4,13 +4,11 @@ use mathlib.Core.Bool.{false}
 use mathlib.Core.List.{List}
 use Prim.Native.Nat.{ℕ, _≤_, _<_}
 use native.Mathlib.Omega.{arith}
-use lib.Dec.{eqb}
 use lib.ListN.{length, length-replicate}
-use Rattle.ring.proofs.Counting.{count-le}
 use Rattle.ring.proofs.Split.{by-eq}
+use Rattle.layout.specs.Sound.{vacant}
 use Rattle.rule.specs.Events as events
 use Rattle.rule.proofs.Crew.{replicate-at}
-use Rattle.phases.proofs.Steps.{either}
 use Rattle.state.specs.Model.{Model, Proper}
 use Rattle.activities.specs.Kinds.{allowance}
 use Rattle.state.specs.Open.{openReply}
@@ -19,11 +17,12 @@ use Rattle.state.specs.declared.Reply.the-variants.{Accepted}
 use Rattle.protocol.specs.Promise.{Resting}
 use Rattle.protocol.specs.WellFormed.{Kind}
 use Rattle.ring.proofs.Tests.{not-both}
-use Rattle.protocol.proofs.Opening.{fresh-resting, other-allowance}
+use Rattle.protocol.proofs.Opening.{fresh-resting}
 use Rattle.protocol.proofs.Theorem.{opens, open-passed}
 use Rattle.history.specs.History.{opening}
 use Rattle.history.proofs.Pending.{agrees-idle}
 use Rattle.history.proofs.Simulation.{Shows}
+use Rattle.history.proofs.Taking.{Taken}
 use Rattle.history.proofs.Unordered.{Untouched}
 
 pub by-kinds {ℓ} : {C : Type ℓ} (k : ℕ) → Kind k → (k ≡ 1 → C) → (k ≡ 2 → C) → (k ≡ 3 → C) → C
@@ -37,9 +36,6 @@ module _ (M : Model) (proper : Proper M) (k m : ℕ) (t : List ℕ) (accepted : 
   pub homes : (x : ℕ) → M .home (length t) x < length t
   homes x = proper .homes (length t) x some-cells
 
-  allowed : allowance k t < length t
-  allowed = either (λ x. x < length t) (eqb k 1) (omega (arith, some-cells, count-le (λ x. eqb x 0) t)) (omega (arith, some-cells))
-
   manned : m ≤ M .room
   manned = omega (arith, proper .places, open-passed M k m t accepted .1)
 
@@ -50,14 +46,23 @@ module _ (M : Model) (proper : Proper M) (k m : ℕ) (t : List ℕ) (accepted : 
   pub opening-untouched : Untouched t (opening M k m t)
   opening-untouched = record { table = λ _. refl; idle = λ _. resting .rest }
 
-  pub opening-shows : Shows k (length t) m (opening M k m t) (events.opened k m t)
+  -- no order is accepted yet
+  pub opening-taken : Taken k (vacant t) (opening M k m t)
+  opening-taken =
+      let o = opens M k m t in
+      record {
+        kind = resting .kind;
+        left = λ is. omega (arith, o .insert-left (rw accepted) is);
+        none-left = o .other-left (rw accepted);
+        entries = λ y i. absurd i;
+      }
+
+  pub opening-shows : Shows k (length t) m (opening M k m t) (events.opened m t)
   opening-shows = rw accepted
       (record {
         kind = refl;
         cells = refl;
         count = refl;
-        few = allowed;
-        none-left = other-allowance k t;
         crew = record {
           records = rw length-replicate manned;
           places = rw length-replicate manned;
@@ -67,7 +72,6 @@ module _ (M : Model) (proper : Proper M) (k m : ℕ) (t : List ℕ) (accepted : 
         };
         table = refl;
         ordered = refl;
-        left = refl;
         said = λ _. refl;
         counted = refl;
         shut = refl;

@@ -22,8 +22,8 @@ module _ (M : Model) where
 
   shut-call : (c : Call) (s : History) → s .phase .shut ≡ true → call M c s .phase ≡ s .phase
   unfolding call
-  shut-call (order w v) s shut = let p = s .phase in
-      by-reply (orderReply M p w v) (λ e. absurd (not-both (p .shut) shut (order-passed M p w v e .running))) (λ _ e. rw e)
+  shut-call (order w v cents) s shut = let p = s .phase in
+      by-reply (orderReply M p w v cents) (λ e. absurd (not-both (p .shut) shut (order-passed M p w v cents e .running))) (λ _ e. rw e)
   shut-call (turn w) s shut = let p = s .phase in
       by-reply (turnCheck M p (s .table) w) (λ e. absurd (not-both (p .shut) shut (turn-passed M p (s .table) w e .1))) (λ _ e. rw e)
   shut-call close s shut = let p = s .phase in

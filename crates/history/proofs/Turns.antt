@@ -4,6 +4,7 @@ use Prim.Native.Nat.{ℕ}
 use native.Mathlib.Omega.{arith}
 use lib.ListN.{getD, length-set}
 use lib.Seq.{getD-set-same, getD-set-other}
+use Rattle.prices.specs.Contents.{label}
 use Rattle.activities.specs.Activities.{idle}
 use Rattle.rule.specs.Rule.{touched, rule}
 use Rattle.rule.specs.declared.Outcome.{Outcome}
@@ -22,7 +23,8 @@ alike M p q t u w z a b kind sized same held = by (touched (doing p w)) refl (ap
   where
     -- the rule gives both turns one outcome
     outcome : (c : ℕ) → touched (doing p w) ≡ At c
-        → rule (p .kind) (p .length) (M .home (p .length)) (doing p w) (getD t c 0) ≡ rule (q .kind) (q .length) (M .home (q .length)) (doing q z) (getD u c 0)
+        → rule (p .kind) (p .length) label (M .home (p .length)) (doing p w) (getD t c 0)
+        ≡ rule (q .kind) (q .length) label (M .home (q .length)) (doing q z) (getD u c 0)
     outcome c is =
         let l : p .length ≡ q .length = omega (arith, turn-passed M p t w a .2, turn-passed M q u z b .2) in
         let e : getD t c 0 ≡ getD u c 0 = held c is in

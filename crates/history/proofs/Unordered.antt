@@ -1,5 +1,5 @@
 -- While no order is accepted, all workers are idle and the table stays.
-use mathlib.Core.Path.{_≡_, refl, sym, ap, _∙_}
+use mathlib.Core.Path.{_≡_, sym, ap, _∙_}
 use mathlib.Core.Bool.{true, false}
 use mathlib.Core.List.{List, [], _∷_}
 use Prim.Native.Nat.{ℕ}
@@ -9,33 +9,28 @@ use Rattle.state.specs.Model.{Model}
 use Rattle.state.specs.declared.Phase.{Phase}
 use Rattle.state.specs.declared.Reply.the-variants.{Accepted}
 use Rattle.protocol.specs.Bars.{doing}
-use Rattle.protocol.specs.Calls.{closeReply, orderReply, turnCall, turnTable}
+use Rattle.protocol.specs.Calls.{entryFor, closeReply, orderReply, turnCall, turnTable}
 use Rattle.protocol.specs.IsWellFormed.{isWellFormed}
-use Rattle.protocol.specs.declared.TurnReply.{TurnReply}
-use Rattle.protocol.specs.declared.TurnReply.the-variants as turnReply
 use Rattle.protocol.proofs.Chain.{by-reply}
 use Rattle.protocol.proofs.Theorem.{turns}
 use Rattle.protocol.proofs.WellFormed.{all-idle-says}
 use Rattle.history.specs.History.{Call, order, turn, close, History, afterTurn, call, run}
-use Rattle.history.proofs.Keeping.{turn-phase, turn-table}
+use Rattle.history.proofs.Keeping.{turn-phase, turn-ordered, turn-table}
 
 -- the table is t and all workers are idle, if no order was accepted
 pub record Untouched (t : List ℕ) (s : History) : Type 0 where
   pub table : s .ordered ≡ [] → s .table ≡ t
   pub idle : s .ordered ≡ [] → (w : ℕ) → doing (s .phase) w ≡ Idle
 
-no-first : (v : ℕ) (l : List ℕ) → v ∷ l ≡ [] → ⊥
-no-first v l z = let one : _≡_ {A = ℕ} 0 1 = cc in omega arith
-
-turn-ordered : (w : ℕ) (t : List ℕ) (p : Phase) (r : TurnReply) (s : History) → afterTurn w t p r s .ordered ≡ s .ordered
-turn-ordered w t p (turnReply.Answered a) s = refl
-turn-ordered w t p (turnReply.Refused r) s = refl
+no-first : (x : ℕ) (l : List ℕ) → x ∷ l ≡ [] → ⊥
+no-first x l z = let one : _≡_ {A = ℕ} 0 1 = cc in omega arith
 
 module _ (M : Model) (t : List ℕ) where
   call-untouched : (c : Call) (s : History) → Untouched t s → Untouched t (call M c s)
   unfolding call
-  call-untouched (order w v) s h = by-reply (orderReply M (s .phase) w v)
-      (λ e. rw e (record { table = λ z. absurd (no-first v (s .ordered) z); idle = λ z. absurd (no-first v (s .ordered) z) }))
+  call-untouched (order w v cents) s h = let none = no-first (entryFor (s .phase .kind) v cents) (s .ordered) in
+      by-reply (orderReply M (s .phase) w v cents)
+      (λ e. rw e (record { table = λ z. absurd (none z); idle = λ z. absurd (none z) }))
       (λ _ e. rw e h)
   call-untouched (turn w) s h =
       let r = turnCall M (s .phase) (s .table) w in

@@ -7,7 +7,7 @@ use lib.Dec.{ltb}
 use lib.ListN.{getD, set, replicate}
 use Rattle.ring.specs.Counting.{bit}
 use Rattle.rule.specs.declared.Answer.{Answer}
-use Rattle.rule.specs.declared.Answer.the-variants.{WentOn, Finished, Yes, No}
+use Rattle.rule.specs.declared.Answer.the-variants.{WentOn, Finished, Price, No}
 use Rattle.rule.specs.declared.Answer.the-variants as answer
 use Rattle.rule.specs.Events.{Said, tells}
 use Rattle.state.specs.Model.{Model}
@@ -17,10 +17,11 @@ use Rattle.state.specs.declared.Reply.{Reply}
 use Rattle.state.specs.declared.Reply.the-variants.{Accepted, Refused}
 use Rattle.protocol.specs.declared.TurnReply.{TurnReply}
 use Rattle.protocol.specs.declared.TurnReply.the-variants as turnReply
-use Rattle.protocol.specs.Calls.{closeCall, orderCall, turnCall, turnTable}
+use Rattle.protocol.specs.Calls.{entryFor, closeCall, orderCall, turnCall, turnTable}
 
 pub data Call : Type 0 where
-  order : (w v : ℕ) → Call
+  -- of key v, with its price, to worker w
+  order : (w v cents : ℕ) → Call
   turn : (w : ℕ) → Call
   close : Call
 
@@ -28,22 +29,22 @@ pub data Call : Type 0 where
 pub record History : Type 0 where
   pub table : List ℕ
   pub phase : Phase
-  -- the keys of the accepted orders, the last one first
+  -- the entries of the accepted orders, keys with the prices that insert phases read, the last one first
   pub ordered : List ℕ
-  -- for each worker the key of its unfinished order, 0 if it has none: from the accepted order until a turn answers finished
+  -- for each worker the entry of its unfinished order, 0 if it has none: from the accepted order until a turn answers finished
   pub pending : List ℕ
-  -- the answers of finished finds with the keys ordered, the last one first
+  -- the answers of finished finds with the entries ordered, the last one first
   pub said : List Said
   -- the turns not refused whose worker has an unfinished order
   pub counted : ℕ
   -- a close was accepted
   pub closed : Bool
 
--- finished, with yes or no in a find phase
+-- finished, with a price or no in a find phase
 abbrev pub isFinish : Answer → Bool
 isFinish WentOn = false
 isFinish Finished = true
-isFinish Yes = true
+isFinish (Price q) = true
 isFinish No = true
 isFinish answer.Idle = false
 
@@ -61,16 +62,16 @@ afterRefusal t p s = record {
 }
 
 abbrev pub afterOrder : ℕ → ℕ → Phase → Reply → History → History
-afterOrder w v p Accepted s = record {
+afterOrder w e p Accepted s = record {
   table = s .table;
   phase = p;
-  ordered = v ∷ s .ordered;
-  pending = set (s .pending) w v;
+  ordered = e ∷ s .ordered;
+  pending = set (s .pending) w e;
   said = s .said;
   counted = s .counted;
   closed = s .closed;
 }
-afterOrder w v p (Refused r) s = afterRefusal (s .table) p s
+afterOrder w e p (Refused r) s = afterRefusal (s .table) p s
 
 abbrev pub afterTurn : ℕ → List ℕ → Phase → TurnReply → History → History
 afterTurn w t p (turnReply.Answered a) s = record {
@@ -100,14 +101,14 @@ afterClose p (Refused r) s = afterRefusal (s .table) p s
 abbrev pub worked : TurnReply → Bool
 worked (turnReply.Answered WentOn) = true
 worked (turnReply.Answered Finished) = true
-worked (turnReply.Answered Yes) = true
+worked (turnReply.Answered (Price q)) = true
 worked (turnReply.Answered No) = true
 worked (turnReply.Answered answer.Idle) = false
 worked (turnReply.Refused r) = false
 
 module _ (M : Model) where
   unfoldable pub call : Call → History → History
-  call (order w v) s = let r = orderCall M (s .phase) w v in afterOrder w v (r .phase) (r .reply) s
+  call (order w v cents) s = let r = orderCall M (s .phase) w v cents in afterOrder w (entryFor (s .phase .kind) v cents) (r .phase) (r .reply) s
   call (turn w) s = let r = turnCall M (s .phase) (s .table) w in afterTurn w (turnTable M (s .phase) (s .table) w) (r .phase) (r .reply) s
   call close s = let r = closeCall M (s .phase) in afterClose (r .phase) (r .reply) s
 
@@ -119,7 +120,7 @@ module _ (M : Model) where
   -- the answers of the turns of such a list, the first one first
   unfoldable pub turnReplies : List Call → History → List TurnReply
   turnReplies [] s = []
-  turnReplies (order w v ∷ cs) s = turnReplies cs (call (order w v) s)
+  turnReplies (order w v cents ∷ cs) s = turnReplies cs (call (order w v cents) s)
   turnReplies (turn w ∷ cs) s = turnCall M (s .phase) (s .table) w .reply ∷ turnReplies cs (call (turn w) s)
   turnReplies (close ∷ cs) s = turnReplies cs (call close s)
 

@@ -2,36 +2,51 @@
 use mathlib.Core.Path.{_≡_}
 use mathlib.Core.Logic.{_≢_, _↔_, _⊎_}
 use mathlib.Core.Bool.{true, false, cond}
-use mathlib.Core.List.{List, [], _∷_, _++_}
-use Prim.Native.Nat.{ℕ, suc, _+_, _<_}
-use lib.Dec.{eqb}
+use mathlib.Core.List.{List, [], _∷_, _++_, map}
+use Prim.Native.Nat.{ℕ, suc, _+_, _≤_, _<_}
+use lib.Dec.{T, eqb}
 use lib.ListN.{length, getD}
 use Rattle.ring.specs.Counting.{count}
-use Rattle.layout.specs.Layout.{In, without, layout}
+use Rattle.layout.specs.Layout.{In}
 use Rattle.layout.specs.Sound.{vacant, Ordered}
+use Rattle.prices.specs.Contents.{label, price, cellOk}
+use Rattle.prices.specs.Priced.{labels, Least, SameLeast, pricedLayout, withoutLabels}
 use Rattle.rule.specs.declared.Place.the-variants.{At}
-use Rattle.activities.specs.Activities.{keyOf}
+use Rattle.activities.specs.Activities.{entryOf}
 use Rattle.rule.specs.Events.{Said}
 use Rattle.rule.specs.Rule.{touched}
-use Rattle.phases.specs.Promise.{mostSteps, Right}
+use Rattle.phases.specs.Promise.{mostSteps, Right, SameOrders}
 use Rattle.state.specs.Model.{Model, Proper, sizeOk, crewOk}
 use Rattle.state.specs.Open.{openReply, refusedPhase}
 use Rattle.state.specs.Refusals.{replyNumber}
 use Rattle.activities.specs.declared.Activity.the-variants.{Idle}
+use Rattle.activities.specs.declared.Worker.{Worker}
 use Rattle.state.specs.declared.Phase.{Phase}
 use Rattle.state.specs.declared.Reply.the-variants.{Accepted}
 use Rattle.protocol.specs.Bars.{doing}
 use Rattle.protocol.specs.Calls.{orderCall, turnCheck, turnCall, turnTable}
 use Rattle.protocol.specs.IsWellFormed.{isWellFormed}
+use Rattle.protocol.specs.Promise.{SoundIn}
 use Rattle.history.specs.History.{Call, close, History, worked, turnReplies, opening, after}
 
--- the keys that a closed phase leaves: those at opening with every key put in, or without every key taken out, or unchanged
-abbrev pub keysAfter : ℕ → List ℕ → List ℕ → List ℕ
-keysAfter k ordered t = cond (eqb k 1) (ordered ++ t) (cond (eqb k 2) (without ordered t) t)
+-- the entries that a closed phase leaves, where of each key the least price counts: those at opening with every entry put in, or without every key
+-- taken out, or unchanged
+abbrev pub entriesAfter : ℕ → List ℕ → List ℕ → List ℕ
+entriesAfter k ordered t = cond (eqb k 1) (ordered ++ t) (cond (eqb k 2) (withoutLabels label ordered t) t)
 
--- some worker carries v
+-- some worker carries the key v
 abbrev pub Carried : History → ℕ → Type 0
-Carried s v = (w : ℕ) × (keyOf (doing (s .phase) w) ≡ v)
+Carried s v = (w : ℕ) × (label (entryOf (doing (s .phase) w)) ≡ v)
+
+-- the entries in the table and those that the workers carry
+abbrev pub present : History → List ℕ
+present s = s .table ++ map (λ (w : Worker). entryOf (w .activity)) (s .phase .workers)
+
+-- the entry y may be ordered in a phase of kind k: it has a key, put in a price from 1 to 9,999,999, else none
+pub record Acceptable (k y : ℕ) : Type 0 where
+  pub key : label y ≢ 0
+  pub priced : k ≡ 1 → (1 ≤ price y) × (price y ≤ 9999999)
+  pub unpriced : k ≢ 1 → price y ≡ 0
 
 -- the phase state has the kind, the length and the worker count of the opening, and the table its length
 pub record AsOpened (k n m : ℕ) (s : History) : Type 0 where
@@ -45,7 +60,16 @@ module _ (M : Model) (k m : ℕ) (t : List ℕ) (cs : List Call) where
   pub record Claim : Type 0 where
     -- once a close is accepted, the table is the canonical layout, cell for cell
     pub closed : after M k m t cs .closed ≡ true
-        → after M k m t cs .table ≡ layout (length t) (M .home (length t)) (keysAfter k (after M k m t cs .ordered) t)
+        → after M k m t cs .table ≡ pricedLayout (length t) label (M .home (length t)) (entriesAfter k (after M k m t cs .ordered) t)
+    -- it is sound again, and closed or not every cell is empty or has a key with a price from 1 to 9,999,999
+    pub sound : after M k m t cs .closed ≡ true → SoundIn M (after M k m t cs .table)
+    pub cells : (j : ℕ) → T (cellOk (getD (after M k m t cs .table) j 0))
+    -- put in: it has each key at the least price among that at opening and those ordered, and nothing else
+    pub cheapest : k ≡ 1 → after M k m t cs .closed ≡ true → (y : ℕ) → label y ≢ 0
+        → In y (after M k m t cs .table) ↔ Least label (after M k m t cs .ordered ++ t) y
+    -- take out: it has the entries at opening whose keys were not ordered, and nothing else
+    pub remaining : k ≡ 2 → after M k m t cs .closed ≡ true → (y : ℕ) → label y ≢ 0
+        → In y (after M k m t cs .table) ↔ (In y t × (In (label y) (labels label (after M k m t cs .ordered)) → ⊥))
     -- the record is shut exactly if a close was accepted
     pub shut : after M k m t cs .phase .shut ≡ after M k m t cs .closed
     -- no phase state is ever ill-formed
@@ -58,25 +82,35 @@ module _ (M : Model) (k m : ℕ) (t : List ℕ) (cs : List Call) where
     pub counts : after M k m t cs .counted ≡ count worked (turnReplies M cs (opening M k m t))
     -- they are fewer than the formula
     pub bounded : after M k m t cs .counted < mostSteps (length t) m (length (after M k m t cs .ordered))
+    -- every accepted order is for a key, in an insert phase at a price from 1 to 9,999,999
+    pub acceptable : (y : ℕ) → In y (after M k m t cs .ordered) → Acceptable k y
     -- put in: the accepted orders and those left are the empty cells at opening less one; in other kinds none are left
     pub left : k ≡ 1 → suc (length (after M k m t cs .ordered) + after M k m t cs .phase .left) ≡ vacant t
     pub none-left : k ≢ 1 → after M k m t cs .phase .left ≡ 0
-    -- an order is answered 9, full, exactly if it is for a key, to an idle worker, in an insert phase that is not closed and whose orders are used up
-    pub full : (w v : ℕ) → replyNumber (orderCall M (after M k m t cs .phase) w v .reply) ≡ 9
+    -- an order is answered 9, full, exactly if it is for a key at a price that a label can have, to an idle worker, in an insert phase that is not
+    -- closed and whose orders are used up
+    pub full : (w v cents : ℕ) → replyNumber (orderCall M (after M k m t cs .phase) w v cents .reply) ≡ 9
         ↔ ((k ≡ 1) × (suc (length (after M k m t cs .ordered)) ≡ vacant t) × (after M k m t cs .closed ≡ false)
-        × (w < m) × (doing (after M k m t cs .phase) w ≡ Idle) × (v ≢ 0))
+        × (w < m) × (doing (after M k m t cs .phase) w ≡ Idle) × (v ≢ 0) × (1 ≤ cents) × (cents ≤ 9999999))
     -- put in: every key's path holds only greater keys; the table's and the carried keys are those at opening and those ordered
-    pub ordering : k ≡ 1 → Ordered (length t) (M .home (length t)) (after M k m t cs .table)
+    pub ordering : k ≡ 1 → Ordered (length t) (M .home (length t)) (labels label (after M k m t cs .table))
     pub union : k ≡ 1 → (v : ℕ) → v ≢ 0
-        → (In v (after M k m t cs .table) ⊎ Carried (after M k m t cs) v) ↔ (In v t ⊎ In v (after M k m t cs .ordered))
-    -- take out: a key that stood at opening and is in no accepted order is in the table
-    pub kept : k ≡ 2 → (v : ℕ) → v ≢ 0 → In v t → (In v (after M k m t cs .ordered) → ⊥) → In v (after M k m t cs .table)
-    -- look up: the table is unchanged; finished look-ups said yes exactly for keys in it; each accepted order has its answer or is unfinished
+        → (In v (labels label (after M k m t cs .table)) ⊎ Carried (after M k m t cs) v)
+        ↔ (In v (labels label t) ⊎ In v (labels label (after M k m t cs .ordered)))
+    -- each with the same least price, and no entry comes in that was neither there nor ordered
+    pub prices : k ≡ 1 → SameLeast label (present (after M k m t cs)) (after M k m t cs .ordered ++ t)
+    pub only : k ≡ 1 → (y : ℕ) → label y ≢ 0 → In y (present (after M k m t cs)) → In y (after M k m t cs .ordered ++ t)
+    -- take out: an entry that stood at opening and whose key is in no accepted order is in the table, price included, and none comes in
+    pub kept : k ≡ 2 → (y : ℕ) → label y ≢ 0 → In y t
+        → (In (label y) (labels label (after M k m t cs .ordered)) → ⊥) → In y (after M k m t cs .table)
+    pub none-new : k ≡ 2 → (y : ℕ) → y ≢ 0 → In y (after M k m t cs .table) → In y t
+    -- look up: the table is unchanged; finished look-ups said a price exactly if their key stands in it at that price; each accepted order has its answer
+    -- or is unfinished
     pub unchanged : k ≡ 3 → after M k m t cs .table ≡ t
-    pub right : k ≡ 3 → Right t (after M k m t cs .said)
+    pub right : k ≡ 3 → Right label t (after M k m t cs .said)
     pub each : k ≡ 3 → (v : ℕ) → v ≢ 0
-        → count (λ (a : Said). eqb (a .key) v) (after M k m t cs .said) + count (λ x. eqb x v) (after M k m t cs .pending)
-        ≡ count (λ x. eqb x v) (after M k m t cs .ordered)
+        → count (λ (a : Said). eqb (label (a .wanted)) v) (after M k m t cs .said) + count (λ x. eqb (label x) v) (after M k m t cs .pending)
+        ≡ count (λ x. eqb (label x) v) (after M k m t cs .ordered)
 
 abbrev pub HistoryPromise : Type 0
 HistoryPromise = (M : Model) → Proper M → (k m : ℕ) (t : List ℕ) → openReply M k m t ≡ Accepted → (cs : List Call) → Claim M k m t cs
@@ -96,12 +130,22 @@ pub record KeepsTable (M : Model) (k m : ℕ) (t : List ℕ) : Type 0 where
 abbrev pub KeepsTablePromise : Type 0
 KeepsTablePromise = (M : Model) → Proper M → (k m : ℕ) (t : List ℕ) → openReply M k m t ≡ Accepted → KeepsTable M k m t
 
--- ---- two lists so closed, of one kind, opened on equal tables and with the same set of keys in their accepted orders, leave equal tables, also in
--- two models, if their home rules agree
+-- ---- a closed table is fixed by its keys and the least price of each: two lists so closed, of whatever kinds, opened on tables of one length, leave
+-- equal tables if the entries that they leave have the same keys, each with the same least price, also in two models, if their home rules agree
+abbrev pub FixedPromise : Type 0
+FixedPromise = (M M′ : Model) → Proper M → Proper M′ → (k k′ m m′ : ℕ) (t t′ : List ℕ) → length t ≡ length t′
+    → ((x : ℕ) → M .home (length t) x ≡ M′ .home (length t) x)
+    → openReply M k m t ≡ Accepted → openReply M′ k′ m′ t′ ≡ Accepted → (cs cs′ : List Call)
+    → SameLeast label (entriesAfter k (after M k m t cs .ordered) t) (entriesAfter k′ (after M′ k′ m′ t′ cs′ .ordered) t′)
+    → after M k m t cs .closed ≡ true → after M′ k′ m′ t′ cs′ .closed ≡ true
+    → after M k m t cs .table ≡ after M′ k′ m′ t′ cs′ .table
+
+-- ---- two lists so closed, of one kind, opened on equal tables and with the same set of keys in their accepted orders, in insert phases also with
+-- the same least ordered price of each, leave equal tables, also in two models, if their home rules agree
 abbrev pub OneTablePromise : Type 0
 OneTablePromise = (M M′ : Model) → Proper M → Proper M′ → (k m m′ : ℕ) (t : List ℕ) → ((x : ℕ) → M .home (length t) x ≡ M′ .home (length t) x)
     → openReply M k m t ≡ Accepted → openReply M′ k m′ t ≡ Accepted → (cs cs′ : List Call)
-    → ((v : ℕ) → In v (after M k m t cs .ordered) ↔ In v (after M′ k m′ t cs′ .ordered))
+    → SameOrders k label (after M k m t cs .ordered) (after M′ k m′ t cs′ .ordered)
     → after M k m t cs .closed ≡ true → after M′ k m′ t cs′ .closed ≡ true
     → after M k m t cs .table ≡ after M′ k m′ t cs′ .table
 

@@ -10,6 +10,7 @@ use lib.ListN.{length, getD, set, length-set}
 use borrow.Author.Tests.{eqb-true, ltb-false, eq-eqb, ne-eqb, le-leb, le-ltb}
 use Rattle.ring.proofs.Split.{by-lt}
 use Rattle.layout.proofs.Home.{mod-home}
+use Rattle.prices.specs.Contents.{label}
 use Rattle.activities.specs.Activities.{activityOk, idle}
 use Rattle.state.specs.Model.{Model, gateway}
 use Rattle.state.specs.declared.Phase.{Phase}
@@ -36,7 +37,7 @@ use Rattle.numbered.proofs.Running.{one-more-run}
 -- ---- one call
 module _ (M : Model) (p : Phase) (t : List ℕ) (good : isWellFormed M p ≡ true) where
   pub shut-applies : p .shut ≡ true → (c : Call) → Applies M p t c (record { phase = p; answer = refusalAnswer Shut }) t
-  shut-applies shut (order w v) = order-applies M p t w v (refusalAnswer Shut) (record { phase = p; reply = Refused Shut }) (simp (good, shut)) refl
+  shut-applies shut (order w v cents) = order-applies M p t w v cents (refusalAnswer Shut) (record { phase = p; reply = Refused Shut }) (simp (good, shut)) refl
   shut-applies shut (turn w) = turn-applies M p t w (refusalAnswer Shut) (record { phase = p; reply = turnReply.Refused Shut }) t (simp (good, shut)) (simp (good, shut)) refl
   shut-applies shut close = close-applies M p t (refusalAnswer Shut) (record { phase = p; reply = Refused Shut }) (simp (good, shut)) refl
 
@@ -49,13 +50,13 @@ module _ (M : Model) (p : Phase) (t : List ℕ) (good : isWellFormed M p ≡ tru
     closed-applies free = close-applies M p t 0 (record { phase = shutPhase p; reply = Accepted }) (simp (good, up, free)) refl
 
     -- ---- order
-    module _ (w v : ℕ) where
-      pub unordered-applies : p .crew ≤ w → Applies M p t (order w v) (record { phase = p; answer = refusalAnswer NoWorker }) t
-      unordered-applies past = order-applies M p t w v (refusalAnswer NoWorker) (record { phase = p; reply = Refused NoWorker }) (simp (good, up, le-leb _ _ past)) refl
+    module _ (w v cents : ℕ) where
+      pub unordered-applies : p .crew ≤ w → Applies M p t (order w v cents) (record { phase = p; answer = refusalAnswer NoWorker }) t
+      unordered-applies past = order-applies M p t w v cents (refusalAnswer NoWorker) (record { phase = p; reply = Refused NoWorker }) (simp (good, up, le-leb _ _ past)) refl
 
-      pub given-applies : w < p .crew → (g : Given) (a : ℕ) → g ≡ oneOrder M (p .kind) (p .length) (p .left) (getD (p .workers) w idle) v → a ≡ replyAnswer (g .reply)
-          → Applies M p t (order w v) (record { phase = with-given p w g .phase; answer = a }) t
-      given-applies below g a is number = order-applies M p t w v a (with-given p w g) (ap (with-given p w) is ∙ order-by-one M p w v good up below) number
+      pub given-applies : w < p .crew → (g : Given) (a : ℕ) → g ≡ oneOrder M (p .kind) (p .length) (p .left) (getD (p .workers) w idle) v cents → a ≡ replyAnswer (g .reply)
+          → Applies M p t (order w v cents) (record { phase = with-given p w g .phase; answer = a }) t
+      given-applies below g a is number = order-applies M p t w v cents a (with-given p w g) (ap (with-given p w) is ∙ order-by-one M p w v cents good up below) number
 
     -- ---- turn
     module _ (fits : p .length ≡ length t) (w : ℕ) where
@@ -73,8 +74,8 @@ module _ (M : Model) (p : Phase) (t : List ℕ) (good : isWellFormed M p ≡ tru
 
 -- ---- a list of calls
 -- i calls of the list are run, and have led to the phase p, the table t and the answers out: p is well formed and as long as t
-pub record InPlace (ops workers keys : List ℕ) (p₀ : Phase) (t₀ out₀ : List ℕ) (i : ℕ) (p : Phase) (t out : List ℕ) : Type 0 where
-  pub ran : RunsFrom gateway p₀ t₀ (callsOf ops workers keys i) out₀ p t out
+pub record InPlace (ops workers keys prices : List ℕ) (p₀ : Phase) (t₀ out₀ : List ℕ) (i : ℕ) (p : Phase) (t out : List ℕ) : Type 0 where
+  pub ran : RunsFrom gateway p₀ t₀ (callsOf ops workers keys prices i) out₀ p t out
   pub good : isWellFormed gateway p ≡ true
   pub fits : p .length ≡ length t
   pub same-cells : length t ≡ length t₀
@@ -88,7 +89,7 @@ with-shut p b = record { kind = p .kind; length = p .length; crew = p .crew; lef
 abbrev bare : Phase → List ℕ → History
 bare p t = record { table = t; phase = p; ordered = []; pending = []; said = []; counted = 0; closed = false }
 
-module _ {ops workers keys : List ℕ} {p₀ : Phase} {t₀ out₀ : List ℕ} {i : ℕ} {p : Phase} {t out : List ℕ} (h : InPlace ops workers keys p₀ t₀ out₀ i p t out) where
+module _ {ops workers keys prices : List ℕ} {p₀ : Phase} {t₀ out₀ : List ℕ} {i : ℕ} {p : Phase} {t out : List ℕ} (h : InPlace ops workers keys prices p₀ t₀ out₀ i p t out) where
   pub some-cells : 0 < p .length
   some-cells = omega (arith, well-formed-says gateway p .0 (h .good) .size)
 
@@ -97,7 +98,7 @@ module _ {ops workers keys : List ℕ} {p₀ : Phase} {t₀ out₀ : List ℕ} {
   few-workers = well-formed-says gateway p .0 (h .good) .crew .1
 
   -- what the turn of a worker must find
-  pub worker-fits : (w : ℕ) → w < p .crew → (activityOk (p .kind) (p .length) (getD (p .workers) w idle .activity) ≡ true) × (p .length ≡ length t)
+  pub worker-fits : (w : ℕ) → w < p .crew → (activityOk (p .kind) (p .length) label (getD (p .workers) w idle .activity) ≡ true) × (p .length ≡ length t)
   worker-fits w below = (good-worker gateway p (h .good) w below, h .fits)
 
   -- the next call
@@ -110,9 +111,12 @@ module _ {ops workers keys : List ℕ} {p₀ : Phase} {t₀ out₀ : List ℕ} {
   abbrev key : ℕ
   key = getD keys i 0
 
+  abbrev price : ℕ
+  price = getD prices i 0
+
   -- one call more is run
   abbrev Next : Phase → List ℕ → ℕ → Type 0
-  Next p′ t′ a = InPlace ops workers keys p₀ t₀ out₀ (i + 1) p′ t′ (set out i a)
+  Next p′ t′ a = InPlace ops workers keys prices p₀ t₀ out₀ (i + 1) p′ t′ (set out i a)
 
   -- its refusal before any worker is looked at, 0 for none
   abbrev barring : ℕ
@@ -122,19 +126,19 @@ module _ {ops workers keys : List ℕ} {p₀ : Phase} {t₀ out₀ : List ℕ} {
   Barred b = b ≢ 0 → Next p t b
 
   module _ (room : i < length out₀) where
-    one-more : (r : Applied) (t′ : List ℕ) → Applies gateway p t (callOf op worker key) r t′ → r .phase .length ≡ p .length → length t′ ≡ length t
+    one-more : (r : Applied) (t′ : List ℕ) → Applies gateway p t (callOf op worker key price) r t′ → r .phase .length ≡ p .length → length t′ ≡ length t
         → Next (r .phase) t′ (r .answer)
     one-more r t′ applies as-long kept =
-        let formed = call-keeps gateway (callOf op worker key) (bare p t) (mod-home (p .length) some-cells) (well-formed-says gateway p .0 (h .good)) in
+        let formed = call-keeps gateway (callOf op worker key price) (bare p t) (mod-home (p .length) some-cells) (well-formed-says gateway p .0 (h .good)) in
         record {
-          ran = one-more-run gateway ops workers keys i p₀ t₀ out₀ p t out r t′ room (h .ran) applies;
+          ran = one-more-run gateway ops workers keys prices i p₀ t₀ out₀ p t out r t′ room (h .ran) applies;
           good = rw (applies (bare p t) refl refl .phase) (well-formed-says gateway _ .1 formed);
           fits = as-long ∙ h .fits ∙ omega arith;
           same-cells = kept ∙ h .same-cells;
           same-answers = length-set out i (r .answer) ∙ h .same-answers;
         }
 
-    order-more : op ≡ 1 → (r : Applied) → Applies gateway p t (order worker key) r t → r .phase .length ≡ p .length → Next (r .phase) t (r .answer)
+    order-more : op ≡ 1 → (r : Applied) → Applies gateway p t (order worker key price) r t → r .phase .length ≡ p .length → Next (r .phase) t (r .answer)
     order-more is r applies as-long = one-more r t (rw (eq-eqb op 1 is) applies) as-long refl
 
     turn-more : op ≡ 2 → (r : Applied) (t′ : List ℕ) → Applies gateway p t (turn worker) r t′ → r .phase .length ≡ p .length → length t′ ≡ length t
@@ -145,10 +149,10 @@ module _ {ops workers keys : List ℕ} {p₀ : Phase} {t₀ out₀ : List ℕ} {
       -- ---- refused before any worker is looked at
       pub barred-next : b ≢ 0 → Next p t b
       barred-next = rw is
-          (tested Barred (p .shut) (λ shut _. one-more _ t (shut-applies gateway p t (h .good) shut (callOf op worker key)) refl refl)
+          (tested Barred (p .shut) (λ shut _. one-more _ t (shut-applies gateway p t (h .good) shut (callOf op worker key price)) refl refl)
           (λ up. tested Barred (ltb worker (p .crew)) (λ _ ne. absurd (ne refl))
           (λ past. let l = ltb-false worker (p .crew) past in
-          tested Barred (eqb op 1) (λ e _. order-more (eqb-true op 1 e) _ (unordered-applies gateway p t (h .good) up worker key l) refl)
+          tested Barred (eqb op 1) (λ e _. order-more (eqb-true op 1 e) _ (unordered-applies gateway p t (h .good) up worker key price l) refl)
           (λ _. tested Barred (eqb op 2) (λ e _. turn-more (eqb-true op 2 e) _ t (unturned-applies gateway p t (h .good) up (h .fits) worker l) refl refl)
           (λ _ ne. absurd (ne refl))))))
 
@@ -167,10 +171,10 @@ module _ {ops workers keys : List ℕ} {p₀ : Phase} {t₀ out₀ : List ℕ} {
             let z = simp (is, open-still, le-ltb worker (p .crew) l, ne-eqb op 1 other, eq-eqb op 2 e) at pass in absurd (omega arith))
 
         -- ---- order
-        pub given-next : (e : op ≡ 1) (g : Given) (a : ℕ) → g ≡ oneOrder gateway (p .kind) (p .length) (p .left) (getD (p .workers) worker idle) key
+        pub given-next : (e : op ≡ 1) (g : Given) (a : ℕ) → g ≡ oneOrder gateway (p .kind) (p .length) (p .left) (getD (p .workers) worker idle) key price
             → a ≡ replyAnswer (g .reply) → Next (with-given p worker g .phase) t a
         given-next e g a gives number =
-            order-more e _ (given-applies gateway p t (h .good) open-still worker key (ordered-below e) g a gives number) refl
+            order-more e _ (given-applies gateway p t (h .good) open-still worker key price (ordered-below e) g a gives number) refl
 
         -- ---- turn
         pub moved-next : (e : op ≡ 2) (m : Moved) (t′ : List ℕ) (a : ℕ)

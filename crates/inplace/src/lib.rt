@@ -53,17 +53,24 @@ fn close_answer(idle: bool) -> u64
 // the phase stays in place, and one worker a call goes by value.
 pub fn run_tested(
     phase: Phase,
-    cells: &mut [u32],
+    cells: &mut [u64],
     ops: &[u32],
     workers: &[u32],
     keys: &[u32],
+    prices: &[u32],
     answers: &mut [u64],
 ) -> Phase
     requires { ⌜ (isWellFormed gateway phase ≡ true) × (phase .length ≡ length (now cells)) ⌝ }
-    ensures { λ r. ⌜ RunsFrom gateway phase (now (cells .entry)) (callsLent (now (ops .entry)) (now (workers .entry)) (now (keys .entry)) (now (answers .entry)))
+    ensures { λ r. ⌜ RunsFrom gateway phase (now (cells .entry)) (callsLent (now (ops .entry)) (now (workers .entry)) (now (keys .entry)) (now (prices .entry)) (now (answers .entry)))
         (now (answers .entry)) r (now (cells .exit)) (now (answers .exit)) ⌝ }
 {
-    let all = fewest(ops.len(), workers.len(), keys.len(), answers.len());
+    let all = fewest(
+        ops.len(),
+        workers.len(),
+        keys.len(),
+        prices.len(),
+        answers.len(),
+    );
     let mut next = phase;
     let mut i: usize = 0;
     while i < all {
@@ -71,13 +78,21 @@ pub fn run_tested(
         let worker = workers[i];
         let w = worker as usize;
         let key = keys[i];
+        let price = prices[i];
         let place = i;
         i += 1;
         let bar = barred(op, next.shut, next.crew, worker);
         if bar != 0 {
             answers[place] = bar;
         } else if op == 1 {
-            let given = one_order(next.kind, next.length, next.left, next.workers[w], key);
+            let given = one_order(
+                next.kind,
+                next.length,
+                next.left,
+                next.workers[w],
+                key,
+                price,
+            );
             let ordered = given.worker;
             let reply = given.reply;
             next.workers[w] = ordered;

@@ -1,40 +1,45 @@
--- What holds at all times of an insert phase. No cell has to be fixed for it: the room that the operations leave keeps some cell empty.
+-- What holds at all times of an insert phase, as long as the labels at opening and those ordered are fewer than the cells.
 use mathlib.Core.Path.{_≡_}
-use mathlib.Core.Logic.{_≢_, _↔_, _⊎_}
+use mathlib.Core.Logic.{_≢_, _⊎_}
 use mathlib.Core.List.{List}
-use Prim.Native.Nat.{ℕ, _+_, _<_}
-use lib.ListN.{length}
-use Rattle.ring.specs.Counting.{over}
+use Prim.Native.Nat.{ℕ, _<_}
+use lib.ListN.{length, getD}
 use Rattle.layout.specs.Layout.{In}
 use Rattle.layout.specs.Sound.{Holds, Paths}
-use Rattle.layout.proofs.Canonical.{room}
 use Rattle.layout.proofs.Path.{On}
+use Rattle.prices.specs.Priced.{labels}
+use Rattle.prices.proofs.Least.{Cheaper}
 use Rattle.activities.specs.declared.Activity.{Activity}
 use Rattle.activities.specs.declared.Activity.the-variants.{Idle, Reading, Replacing, WalkingBack, SeekingForward, SeekingBack}
-use Rattle.activities.specs.Activities.{busy}
 use Rattle.rule.specs.Events.{Run, worker}
-use Rattle.phases.specs.Promise.{Carried}
+use Rattle.insert.proofs.Cases.{Yields}
+use Rattle.activities.specs.Activities.{entryOf}
 
--- how many workers are busy
-abbrev pub unfinished : ℕ → List Activity → ℕ
-unfinished W ws = over (λ _ a. busy a) Idle W ws
+-- some worker carries v
+abbrev pub Carried : List Activity → ℕ → Type 0
+Carried ws v = (w : ℕ) × (entryOf (getD ws w Idle) ≡ v)
 
-module _ (n : ℕ) (home : ℕ → ℕ) where
+-- v is in the table or carried
+abbrev pub Present : ℕ → List ℕ → List Activity → ℕ → Type 0
+Present n u ws v = Holds n u v ⊎ Carried ws v
+
+module _ (n : ℕ) (key home : ℕ → ℕ) where
   abbrev pub Shape : List ℕ → Activity → Type 0
   Shape t Idle = Unit {0}
-  Shape t (Reading v i) = On n home t v i
-  Shape t (Replacing v i j x) = On n home t v i × (j < n) × (x < v)
+  Shape t (Reading v i) = On n home (labels key t) (key v) i
+  Shape t (Replacing v i j x) = On n home (labels key t) (key v) i × (j < n) × Yields key v x
   Shape t (WalkingBack v k) = ⊥
   Shape t (SeekingForward v k j) = ⊥
-  Shape t (SeekingBack v k j x p) = ⊥
+  Shape t (SeekingBack p v k j x) = ⊥
 
-module _ (n W : ℕ) (home : ℕ → ℕ) where
-  -- t is the table at opening, with `all` operations allowed
-  pub record Fair (t : List ℕ) (all : ℕ) (s : Run) : Type 0 where
+module _ (n W : ℕ) (key home : ℕ → ℕ) where
+  -- t is the table at opening
+  pub record Fair (t : List ℕ) (s : Run) : Type 0 where
     pub sized : length (s .table) ≡ n
     pub crew : length (s .workers) ≡ W
-    pub paths : Paths n home (s .table)
-    pub space : unfinished W (s .workers) + s .left < room n (s .table)
-    pub spent : length (s .ordered) + s .left ≡ all
-    pub union : (v : ℕ) → v ≢ 0 → (Holds n (s .table) v ⊎ Carried s v) ↔ (In v t ⊎ In v (s .ordered))
-    pub shape : (w : ℕ) → Shape n home (s .table) (worker s w)
+    pub paths : Paths n home (labels key (s .table))
+    pub whole : (j : ℕ) → key (getD (s .table) j 0) ≡ 0 → getD (s .table) j 0 ≡ 0
+    -- no content comes in that was not there or ordered, and for each of those there is one of its label that costs no more
+    pub only : (v : ℕ) → key v ≢ 0 → Present n (s .table) (s .workers) v → In v t ⊎ In v (s .ordered)
+    pub covers : (v : ℕ) → key v ≢ 0 → In v t ⊎ In v (s .ordered) → Cheaper key (Present n (s .table) (s .workers)) v
+    pub shape : (w : ℕ) → Shape n key home (s .table) (worker s w)

@@ -1,138 +1,210 @@
--- The promises on insert phases hold of every sound table, home rule, number of workers and list of events.
+-- The promises on insert phases hold of every sound table, home rule, rule for labels, number of workers and list of events.
 use mathlib.Core.Path.{_≡_, refl, sym, ap, _∙_}
-use mathlib.Core.Logic.{_≢_, _↔_, _⊎_, inl, inr, ⊎-elim}
-use mathlib.Core.List.{List, _++_}
+use mathlib.Core.Logic.{_≢_, inl, inr, ⊎-elim}
+use mathlib.Core.List.{List, _++_, map}
 use Prim.Native.Nat.{ℕ, _+_, _-_, _*_, _≤_, _<_}
 use native.Mathlib.Nat.{mul-add, mul-le-mul-left}
 use native.Mathlib.Omega.{arith}
-use lib.ListN.{length, getD, length-replicate}
-use Rattle.ring.proofs.Counting.{tally-at}
-use Rattle.layout.specs.Layout.{In, layout}
-use Rattle.layout.specs.Sound.{Holds, vacant, Sound}
-use Rattle.layout.proofs.Canonical.{room, gap, keys-layout}
-use Rattle.layout.proofs.Sets.{held-in, in-holds, in-append}
+use lib.ListN.{length, getD, length-map, length-set, length-replicate, List·getD-map}
+use Rattle.layout.specs.Layout.{In}
+use Rattle.layout.specs.Sound.{Holds}
+use Rattle.layout.proofs.Sets.{held-in, holds-in, in-holds, in-append}
 use Rattle.layout.proofs.Sound.{paths-ordered, paths-sound, sound-paths}
+use Rattle.prices.specs.Priced.{labels, SameLeast, PricedSound, pricedLayout}
+use Rattle.prices.proofs.Labels.{label-at}
+use Rattle.prices.proofs.Least.{Cheaper, itself, further, cover-least, same-label}
+use Rattle.prices.proofs.Theorem.{theorem as layouts, sized}
 use Rattle.activities.specs.declared.Activity.the-variants.{Idle}
-use Rattle.activities.specs.Activities.{busy, keyOf}
-use Rattle.rule.specs.Events.{Run, Event, AllIdle, run, opened, after}
-use Rattle.phases.specs.Promise.{mostRest, Always, Carried, Inserts, stepsOf}
-use Rattle.phases.proofs.Crew.{crew-idle, opening-sum}
-use Rattle.phases.proofs.Events.{run-keeps, run-paid}
+use Rattle.rule.specs.Rule.{start}
+use Rattle.rule.specs.Events.{Run, Event, worker, AllIdle, ordered, event, run, opened, after}
+use Rattle.phases.specs.Promise.{mostRest, Always, present, Roomy, Inserts, Rules, stepsOf}
+use Rattle.phases.proofs.Crew.{crew-idle}
+use Rattle.phases.proofs.Steps.{moved}
+use Rattle.phases.proofs.Events.{event-by, run-keeps, run-paid}
 use Rattle.phases.proofs.Formed.{formed}
+use Rattle.activities.specs.Activities.{entryOf}
 use Rattle.phases.proofs.Formula.{under}
 use Rattle.phases.proofs.Rounds.{steps-ordered}
-use Rattle.phases.proofs.Vacant.{vacant-room}
 use Rattle.insert.proofs.Bound.{potential, opening-potential, potential-most, order-pays, step-pays}
-use Rattle.insert.proofs.Invariant.{Fair}
-use Rattle.insert.proofs.Step.{order-fair, step-keeps, event-keeps}
+use Rattle.insert.proofs.Invariant.{Carried, Present, Fair}
+use Rattle.insert.proofs.Step.{empty, order-fair, step-keeps, few-order, few-step, few-before, event-keeps}
 
 -- the formula covers a step more than an operation takes
-few : (n W : ℕ) → 2 * (W * (n - 1)) + 3 ≤ W * (5 * n + 2) + 1 + (5 * n + 2)
-few n W = let d : (n - 1) + (n - 1) ≤ 5 * n + 2 = omega arith in omega (arith, mul-le-mul-left W d, mul-add W (n - 1) (n - 1))
+few-steps : (n W : ℕ) → 2 * (W * (n - 1)) + 3 ≤ W * (5 * n + 2) + 1 + (5 * n + 2)
+few-steps n W = let d : (n - 1) + (n - 1) ≤ 5 * n + 2 = omega arith in omega (arith, mul-le-mul-left W d, mul-add W (n - 1) (n - 1))
 
--- idle workers carry no key
-nobody : (s : Run) → AllIdle s → (v : ℕ) → v ≢ 0 → Carried s v → ⊥
-nobody s rest v nz (w, z) = nz (sym z ∙ ap keyOf (rest w))
+module _ (n W : ℕ) (key home : ℕ → ℕ) (rules : Rules n key home) (t : List ℕ) (sound : PricedSound n key home t) where
+  abbrev kz : key 0 ≡ 0
+  kz = rules .blank
 
-module _ (n W : ℕ) (home : ℕ → ℕ) (hb : (x : ℕ) → home x < n) (t : List ℕ) (sound : Sound n home t) where
-  abbrev all : ℕ
-  all = vacant t - 1
+  abbrev hb : (x : ℕ) → home x < n
+  hb = rules .inside
 
-  opening-fair : Fair n W home t all (opened 1 W t)
+  -- idle workers carry no label
+  nobody : (s : Run) → AllIdle s → (v : ℕ) → key v ≢ 0 → Carried (s .workers) v → ⊥
+  nobody s rest v nz (w, z) = nz (ap key (sym z ∙ ap entryOf (rest w)) ∙ kz)
+
+  opening-fair : Fair n W key home t (opened W t)
   opening-fair =
       let rest = crew-idle W in
-      let some = tally-at (λ i. 1 - getD t i 0) n (sound .gap .cell) (sound .gap .inside) in
-      let count : vacant t ≡ room n t = vacant-room t ∙ ap (λ (m : ℕ). room m t) (sound .sized) in
+      let long = sized n key home kz hb t sound in
       record {
-        sized = sound .sized;
+        sized = long;
         crew = length-replicate W Idle;
-        paths = sound-paths n home hb t sound;
-        space = omega (arith, sound .gap .is, opening-sum busy W refl);
-        spent = omega arith;
-        union = λ v nz. (
-          ⊎-elim (λ h. inl (held-in n t v (sound .sized) h)) (λ c. absurd (nobody (opened 1 W t) rest v nz c)),
-          ⊎-elim (λ i. inl (in-holds n t v (sound .sized) i)) (λ d. absurd d),
-        );
+        paths = sound-paths n home hb (labels key t) (sound .paths);
+        whole = sound .whole;
+        only = λ v nz. ⊎-elim (λ h. inl (held-in n t v long h)) (λ c. absurd (nobody (opened W t) rest v nz c));
+        covers = λ v nz. ⊎-elim (λ i. itself key _ v (inl (in-holds n t v long i))) (λ d. absurd d);
         shape = λ w. rw (rest w) tt;
       }
 
+  -- ---- what every event keeps: the invariant, as long as the labels fit
+  abbrev Kept : Run → Type 0
+  Kept s = (length (s .workers) ≡ W) × (Roomy n key t s → Fair n W key home t s)
+
+  order-kept : (s : Run) (w v : ℕ) → Kept s → w < length (s .workers) → worker s w ≡ Idle → 0 < key v → Kept (ordered 1 n key home s w v)
+  order-kept s w v (crew, fair) wl is l = (
+    unfold ordered in (length-set (s .workers) w (start key home v) ∙ crew),
+    λ f. order-fair n W key home rules t s (fair (few-order n W key home rules t s w v f)) w wl v (omega arith) is,
+  )
+
+  step-kept : (s : Run) (w : ℕ) → Kept s → w < length (s .workers) → Kept (moved 1 n key home s w)
+  step-kept s w (crew, fair) wl = (
+    unfold moved in (length-set (s .workers) w _ ∙ crew),
+    λ f. let g = few-step n W key home rules t s w f in step-keeps n W key home rules t s (fair g) w wl g .0,
+  )
+
+  event-kept : (e : Event) (s : Run) → Kept s → Kept (event 1 n key home e s)
+  event-kept e s h = event-by 1 n key home Kept e s h (λ w v l is p. order-kept s w v h l is p) (λ w l. step-kept s w h l)
+
   -- ---- from a state on
-  module _ (es : List Event) (s : Run) (h : Fair n W home t all s) where
-    run-fair : Fair n W home t all (run 1 n home es s)
-    run-fair = run-keeps 1 n home (Fair n W home t all) (λ e r g. event-keeps n W home hb t all e r g .0) es s h
+  module _ (es : List Event) (s : Run) (h : Kept s) (few : Roomy n key t (run 1 n key home es s)) where
+    run-fair : Fair n W key home t (run 1 n key home es s)
+    run-fair = run-keeps 1 n key home Kept event-kept es s h .1 few
 
-    run-empty : Holds n (run 1 n home es s .table) 0
-    run-empty = gap n (run 1 n home es s .table) (omega (arith, run-fair .space))
+    run-empty : Holds n (labels key (run 1 n key home es s .table)) 0
+    run-empty = empty n W key home rules t (run 1 n key home es s) run-fair few
 
-    -- the potential is counted from behind a cell that is empty at the end
-    steps-paid : run 1 n home es s .counted + length (s .ordered) * (2 * (W * (n - 1)) + 2)
-        ≤ s .counted + potential n W home (run-empty .cell) (run-empty .inside) (s .table) (s .workers)
-        + length (run 1 n home es s .ordered) * (2 * (W * (n - 1)) + 2)
+    -- the potential is counted from behind a cell that has no label at the end
+    steps-paid : run 1 n key home es s .counted + length (s .ordered) * (2 * (W * (n - 1)) + 2)
+        ≤ s .counted + potential n W key home (run-empty .cell) (run-empty .inside) (s .table) (s .workers)
+        + length (run 1 n key home es s .ordered) * (2 * (W * (n - 1)) + 2)
     steps-paid =
         let e = run-empty .cell in
         let en = run-empty .inside in
-        run-paid 1 n home (Fair n W home t all) (λ r. getD (r .table) e 0 ≡ 0) (λ r _. potential n W home e en (r .table) (r .workers)) (2 * (W * (n - 1)) + 2)
-        (λ c r g z. omega (arith, event-keeps n W home hb t all c r g .1 e))
-        (λ r w v g l is p m. (order-fair n W home hb t all r g w l v (omega arith) m is, order-pays n W home e en t all r g w l v is))
-        (λ r w g l. (step-keeps n W home hb t all r g w l .0, step-pays n W home e en t all r g w l))
-        s h es (run-empty .is)
+        run-paid 1 n key home Kept (λ r. Roomy n key t r × (key (getD (r .table) e 0) ≡ 0))
+        (λ r _. potential n W key home e en (r .table) (r .workers)) (2 * (W * (n - 1)) + 2)
+        (λ c r (_, fair) (f, z).
+        let g = few-before n W key home rules t c r f in (
+          g,
+          omega (
+            arith,
+            event-keeps n W key home rules t c r (fair g) g .1 e,
+            label-at key kz (r .table) e,
+            label-at key kz (event 1 n key home c r .table) e,
+          ),
+        ))
+        (λ r w v k l is p. (order-kept r w v k l is p, order-pays n W key home e en r (k .0) w l v is))
+        (λ r w k l. (step-kept r w k l, λ (f, z). step-pays n W key home e en r (k .0) w l t (k .1 (few-step n W key home rules t r w f)) z))
+        s h es (few, sym (label-at key kz (run 1 n key home es s .table) e) ∙ run-empty .is)
+
+  opening-kept : Kept (opened W t)
+  opening-kept = (length-replicate W Idle, λ _. opening-fair)
 
   module _ (es : List Event) where
+    kept : Kept (after 1 n W key home t es)
+    kept = run-keeps 1 n key home Kept event-kept es (opened W t) opening-kept
+
+  module _ (es : List Event) (few : Roomy n key t (after 1 n W key home t es)) where
     abbrev end : Run
-    end = after 1 n W home t es
+    end = after 1 n W key home t es
 
-    fair : Fair n W home t all end
-    fair = run-fair es (opened 1 W t) opening-fair
+    fair : Fair n W key home t end
+    fair = kept es .1 few
 
-    some-empty : Holds n (end .table) 0
-    some-empty = run-empty es (opened 1 W t) opening-fair
+    some-empty : Holds n (labels key (end .table)) 0
+    some-empty = run-empty es (opened W t) opening-kept few
 
     steps-bounded : end .counted ≤ length (end .ordered) * (2 * (W * (n - 1)) + 2)
     steps-bounded =
-        let o = opened 1 W t in
-        omega (arith, steps-paid es o opening-fair, opening-potential n W home (run-empty es o opening-fair .cell) (run-empty es o opening-fair .inside) t)
+        let e = run-empty es (opened W t) opening-kept few in
+        omega (arith, steps-paid es (opened W t) opening-kept few, opening-potential n W key home (e .cell) (e .inside) t)
 
-    pub settles : (ws : List ℕ) → run 1 n home (stepsOf ws) (after 1 n W home t es) .counted ≤ after 1 n W home t es .counted + mostRest n W
+    pub settles : (ws : List ℕ) → run 1 n key home (stepsOf ws) (after 1 n W key home t es) .counted ≤ after 1 n W key home t es .counted + mostRest n W
     settles ws =
-        let e = run-empty (stepsOf ws) end fair in
+        let same = steps-ordered 1 n key home ws end in
+        let few′ : Roomy n key t (run 1 n key home (stepsOf ws) end) = rw same few in
+        let e = run-empty (stepsOf ws) end (kept es) few′ in
         omega (
           arith,
-          steps-paid (stepsOf ws) end fair,
-          ap (λ (l : List ℕ). length l * (2 * (W * (n - 1)) + 2)) (steps-ordered 1 n home ws end),
-          potential-most n W home (e .cell) (e .inside) (end .table) (end .workers),
-          under n W (2 * W + 1) (2 * (W * (n - 1)) + 3) (few n W),
+          steps-paid (stepsOf ws) end (kept es) few′,
+          ap (λ (l : List ℕ). length l * (2 * (W * (n - 1)) + 2)) same,
+          potential-most n W key home (e .cell) (e .inside) (end .table) (end .workers),
+          under n W (2 * W + 1) (2 * (W * (n - 1)) + 3) (few-steps n W),
         )
 
-    pub always : Always 1 n W (after 1 n W home t es)
+    pub always : Always 1 n W key (after 1 n W key home t es)
     always =
         record {
           sized = fair .sized;
           crew = fair .crew;
-          formed = formed 1 n home hb W t es;
-          bounded = omega (arith, steps-bounded, under n W (length (end .ordered)) (2 * (W * (n - 1)) + 2) (omega (arith, few n W)));
+          formed = formed 1 n key home (rules .inside) W t es;
+          bounded = omega (arith, steps-bounded, under n W (length (end .ordered)) (2 * (W * (n - 1)) + 2) (omega (arith, few-steps n W)));
         }
 
-    union : (v : ℕ) → v ≢ 0 → (In v (end .table) ⊎ Carried end v) ↔ (In v t ⊎ In v (end .ordered))
-    union v nz = (
-      ⊎-elim (λ i. fair .union v nz .0 (inl (in-holds n (end .table) v (fair .sized) i))) (λ c. fair .union v nz .0 (inr c)),
-      λ i. ⊎-elim (λ h. inl (held-in n (end .table) v (fair .sized) h)) inr (fair .union v nz .1 i),
-    )
+    -- ---- the contents of the table and those carried, as one list
+    load : List ℕ
+    load = map entryOf (end .workers)
 
-    -- where all workers are idle, the table is sound and has just the keys of the union
-    rest-layout : AllIdle end → end .table ≡ layout n home (end .ordered ++ t)
-    rest-layout rest =
-        keys-layout n home hb (end .ordered ++ t) (end .table) (paths-sound n home hb (end .table) (fair .sized) some-empty (fair .paths))
-        (λ y nz. let a = in-append (end .ordered) t y in (
-          λ h. a .1 (⊎-elim inr inl (fair .union y nz .0 (inl h))),
-          λ i. ⊎-elim (λ h. h) (λ c. absurd (nobody end rest y nz c)) (fair .union y nz .1 (⊎-elim inr inl (a .0 i))),
-        ))
+    present-in : (v : ℕ) → key v ≢ 0 → Present n (end .table) (end .workers) v → In v (present end)
+    unfolding load
+    present-in v nz h = in-append (end .table) load v .1 (⊎-elim
+        (λ p. inl (held-in n (end .table) v (fair .sized) p))
+        (λ (w, z). inr (holds-in (w + 1) load v (λ q. nz (ap key q ∙ kz)) (record { cell = w; inside = omega arith; is = List·getD-map entryOf (end .workers) w Idle ∙ z })))
+        h)
 
-    pub inserts : Inserts n home t (after 1 n W home t es)
+    in-present : (v : ℕ) → In v (present end) → Present n (end .table) (end .workers) v
+    unfolding load
+    in-present v i = ⊎-elim
+        (λ p. inl (in-holds n (end .table) v (fair .sized) p))
+        (λ p. let h = in-holds (length load) load v refl p in inr (h .cell, sym (List·getD-map entryOf (end .workers) (h .cell) Idle) ∙ h .is))
+        (in-append (end .table) load v .0 i)
+
+    only : (v : ℕ) → key v ≢ 0 → In v (present end) → In v (end .ordered ++ t)
+    only v nz i = in-append (end .ordered) t v .1 (⊎-elim inr inl (fair .only v nz (in-present v i)))
+
+    covers : (v : ℕ) → key v ≢ 0 → In v (end .ordered ++ t) → Cheaper key (Present n (end .table) (end .workers)) v
+    covers v nz i = fair .covers v nz (⊎-elim inr inl (in-append (end .ordered) t v .0 i))
+
+    prices : SameLeast key (present end) (end .ordered ++ t)
+    prices = cover-least key (present end) (end .ordered ++ t) only
+        (λ v nz i. further key _ _ v (covers v nz i) (λ u e h. itself key _ u (present-in u (λ z. nz (sym e ∙ z)) h)))
+
+    -- ---- where all workers are idle, the table is sound and has just those contents
+    module _ (rest : AllIdle (after 1 n W key home t es)) where
+      rest-sound : PricedSound n key home (end .table)
+      rest-sound = record { paths = paths-sound n home hb (labels key (end .table)) (length-map (end .table) key ∙ fair .sized) some-empty (fair .paths); whole = fair .whole }
+
+      rest-least : SameLeast key (end .table) (end .ordered ++ t)
+      rest-least = cover-least key (end .table) (end .ordered ++ t)
+          (λ v nz i. in-append (end .ordered) t v .1 (⊎-elim inr inl (fair .only v nz (inl (in-holds n (end .table) v (fair .sized) i)))))
+          (λ v nz i. further key _ _ v (covers v nz i) (λ u e. ⊎-elim
+          (λ h. itself key _ u (held-in n (end .table) u (fair .sized) h)) (λ c. absurd (nobody end rest u (λ z. nz (sym e ∙ z)) c))))
+
+      rest-layout : end .table ≡ pricedLayout n key home (end .ordered ++ t)
+      rest-layout = layouts n key home kz hb .own (end .table) rest-sound ∙ layouts n key home kz hb .set-only (end .table) (end .ordered ++ t) rest-least
+
+    pub inserts : Inserts n key home t (after 1 n W key home t es)
     inserts =
         record {
-          ordering = paths-ordered n home hb (end .table) (fair .paths);
-          gap = some-empty;
-          union = union;
-          operations = fair .spent;
+          ordering = paths-ordered n home hb (labels key (end .table)) (fair .paths);
+          whole = fair .whole;
+          gap = record { cell = some-empty .cell; inside = some-empty .inside; is = fair .whole (some-empty .cell) (sym (label-at key kz (end .table) (some-empty .cell)) ∙ some-empty .is) };
+          union = λ l nz. (
+            same-label key kz (present end) (end .ordered ++ t) (λ y d. prices y d .0) l nz,
+            same-label key kz (end .ordered ++ t) (present end) (λ y d. prices y d .1) l nz,
+          );
+          prices = prices;
+          only = only;
           at-rest = rest-layout;
         }

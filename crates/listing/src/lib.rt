@@ -1,20 +1,21 @@
-// The keys of a table in cell order, by occupancy words (document 01: taken words).
+// The entries of a table in cell order, by occupancy words (document 01: taken words).
+use prices::PRICES;
 ghost use mathlib.Core.Path.{_≡_};
 ghost use Prim.Native.Nat.{_+_, _≤_, _<_};
 ghost use lib.Count.{ones};
 ghost use lib.ListN.{length};
 ghost use lib.Seq.{sets};
-ghost use Rattle.words.specs.Words.{taken, occupied, keysOf, filled, groups, group, wordOf, countOf, listedIn};
+ghost use Rattle.words.specs.Words.{taken, occupied, entriesOf, filled, groups, group, wordOf, countOf, listedIn};
 
-// 1 if the cell holds a key, else 0.
-fn taken_bit(cell: u32) -> u64
+// 1 if the cell holds a label, else 0.
+fn taken_bit(cell: u64) -> u64
     ensures { λ r. ⌜ r ≡ taken cell ⌝ }
 {
-    if cell == 0 { 0 } else { 1 }
+    if cell / PRICES == 0 { 0 } else { 1 }
 }
 
-// The occupancy word of a group: bit b is 1 if its cell b holds a key.
-fn occupancy(group: &[u32]) -> u64
+// The occupancy word of a group: bit b is 1 if its cell b holds a label.
+fn occupancy(group: &[u64]) -> u64
     requires { ⌜ length (now group) ≤ 64 ⌝ }
     ensures { λ r. ⌜ r ≡ wordOf (now (group .entry)) ⌝ }
 {
@@ -27,8 +28,8 @@ fn occupancy(group: &[u32]) -> u64
     word
 }
 
-// How many cells of a group hold a key: the ones of its word.
-fn ones_of(group: &[u32]) -> usize
+// How many cells of a group hold a label: the ones of its word.
+fn ones_of(group: &[u64]) -> usize
     requires { ⌜ length (now group) ≤ 64 ⌝ }
     ensures { λ r. ⌜ r ≡ ones (wordOf (now (group .entry))) ⌝ }
 {
@@ -36,14 +37,14 @@ fn ones_of(group: &[u32]) -> usize
 }
 
 // How many groups of 64 cells there are; the last may have fewer cells.
-fn group_count(cells: &[u32]) -> usize
+fn group_count(cells: &[u64]) -> usize
     ensures { λ r. ⌜ r ≡ groups (now (cells .entry)) ⌝ }
 {
     (cells.len() + 63) / 64
 }
 
 // The cells of group `g`.
-fn group_of(cells: &[u32], g: usize) -> &[u32]
+fn group_of(cells: &[u64], g: usize) -> &[u64]
     requires { ⌜ g < groups (now cells) ⌝ }
     ensures { λ r. ⌜ now r ≡ group (now (cells .entry)) g ⌝ }
 {
@@ -55,8 +56,8 @@ fn group_of(cells: &[u32], g: usize) -> &[u32]
     &cells[from..end]
 }
 
-// How many cells hold a key: the sum of the ones of all words.
-pub fn count_keys(cells: &[u32]) -> usize
+// How many cells hold a label: the sum of the ones of all words.
+pub fn count_keys(cells: &[u64]) -> usize
     ensures { λ r. ⌜ r ≡ countOf (now (cells .entry)) ⌝ }
 {
     let groups = group_count(cells);
@@ -69,25 +70,25 @@ pub fn count_keys(cells: &[u32]) -> usize
     count
 }
 
-// Lists the keys of a group from `place` on.
-fn list_group(group: &[u32], place: usize, out: &mut [u32])
+// Lists the entries of a group from `place` on.
+fn list_group(group: &[u64], place: usize, out: &mut [u64])
     requires { ⌜ place + occupied (now group) ≤ length (now out) ⌝ }
-    ensures { λ r. ⌜ now (out .exit) ≡ sets (now (out .entry)) place (keysOf (now (group .entry))) ⌝ }
+    ensures { λ r. ⌜ now (out .exit) ≡ sets (now (out .entry)) place (entriesOf (now (group .entry))) ⌝ }
 {
     let mut i: usize = 0;
     let mut at = place;
     while i < group.len() {
-        let key = group[i];
-        if key != 0 {
-            out[at] = key;
+        let entry = group[i];
+        if entry / PRICES != 0 {
+            out[at] = entry;
             at += 1;
         }
         i += 1;
     }
 }
 
-// Lists all groups, each in its place: after as many keys as there are ones in the earlier words.
-fn fill(cells: &[u32], out: &mut [u32])
+// Lists all groups, each in its place: after as many as there are ones in the earlier words.
+fn fill(cells: &[u64], out: &mut [u64])
     requires { ⌜ countOf (now cells) ≤ length (now out) ⌝ }
     ensures { λ r. ⌜ now (out .exit) ≡ filled (now (cells .entry)) (now (out .entry)) ⌝ }
 {
@@ -102,8 +103,8 @@ fn fill(cells: &[u32], out: &mut [u32])
     }
 }
 
-// Fills the front of `out` with the keys in cell order if there is room for all; gives their number in any case.
-pub fn list_keys(cells: &[u32], out: &mut [u32]) -> usize
+// Fills the front of `out` with the entries in cell order if there is room for all; gives their number in any case.
+pub fn list_entries(cells: &[u64], out: &mut [u64]) -> usize
     ensures { λ r. ⌜ (r ≡ countOf (now (cells .entry))) × (now (out .exit) ≡ listedIn (now (cells .entry)) (now (out .entry))) ⌝ }
 {
     let count = count_keys(cells);

@@ -5,7 +5,7 @@ use Prim.Native.Nat.{ℕ}
 use Rattle.state.specs.Model.{Model}
 use Rattle.state.specs.declared.Phase.{Phase}
 use Rattle.state.specs.declared.Replied.{Replied}
-use Rattle.protocol.specs.Calls.{closeCall, orderCall, turnCall, turnTable}
+use Rattle.protocol.specs.Calls.{entryFor, closeCall, orderCall, turnCall, turnTable}
 use Rattle.protocol.specs.declared.Turned.{Turned}
 use Rattle.history.specs.History.{order, turn, close, call}
 use Rattle.history.proofs.Keeping.{order-phase, order-table, turn-phase, turn-table, close-phase, close-table}
@@ -13,15 +13,17 @@ use Rattle.numbered.specs.Numbers.{turnAnswer, replyAnswer}
 use Rattle.numbered.specs.Lists.{answerOf, Applies}
 
 module _ (M : Model) (p : Phase) (t : List ℕ) where
-  pub order-applies : (w v a : ℕ) (r : Replied) → r ≡ orderCall M p w v → a ≡ replyAnswer (r .reply)
-      → Applies M p t (order w v) (record { phase = r .phase; answer = a }) t
+  pub order-applies : (w v cents a : ℕ) (r : Replied) → r ≡ orderCall M p w v cents → a ≡ replyAnswer (r .reply)
+      → Applies M p t (order w v cents) (record { phase = r .phase; answer = a }) t
   unfolding call answerOf
-  order-applies w v a r is number s same-phase same-table =
-      let e : r ≡ orderCall M (s .phase) w v = is ∙ ap (λ (q : Phase). orderCall M q w v) (sym same-phase) in
+  order-applies w v cents a r is number s same-phase same-table =
+      let e : r ≡ orderCall M (s .phase) w v cents = is ∙ ap (λ (q : Phase). orderCall M q w v cents) (sym same-phase) in
+      let now = orderCall M (s .phase) w v cents in
+      let x = entryFor (s .phase .kind) v cents in
       record {
-        phase = ap (λ (x : Replied). x .phase) e ∙ sym (order-phase w v _ (orderCall M (s .phase) w v .reply) s);
+        phase = ap (λ (x : Replied). x .phase) e ∙ sym (order-phase w x (now .phase) (now .reply) s);
         answer = number ∙ ap (λ (x : Replied). replyAnswer (x .reply)) e;
-        table = sym same-table ∙ sym (order-table w v (orderCall M (s .phase) w v .phase) (orderCall M (s .phase) w v .reply) s);
+        table = sym same-table ∙ sym (order-table w x (now .phase) (now .reply) s);
       }
 
   pub close-applies : (a : ℕ) (r : Replied) → r ≡ closeCall M p → a ≡ replyAnswer (r .reply)

@@ -1,16 +1,57 @@
--- The batches of specs/Examples, computed; the answers as a test, which a law turns into equality.
-use mathlib.Core.Path.{refl}
+-- The batches of specs/Examples, computed as a test, which a law turns into equality.
+use mathlib.Core.Bool.{Bool, true, _&&_}
+use mathlib.Core.List.{List, [], _∷_, _++_}
+use Prim.Native.Nat.{ℕ}
+use lib.Dec.{T}
+use lib.ListN.{length, drop}
 use Rattle.ring.specs.Ring.{wrap, probe, dist, prev}
 use Rattle.ring.specs.Counting.{count}
 use Rattle.layout.specs.Sound.{all, some, clear, isSound}
-use Rattle.rule.specs.Rule.{insertStep, findStep, deleteStep, rule}
+use Rattle.layout.proofs.Tests.{and-left, and-right}
+use Rattle.prices.specs.Contents.{isSoundTable}
+use Rattle.rule.specs.Rule.{settled, absorbed, insertStep, findStep, deleteStep, rule}
 use Rattle.rule.specs.Schedules.{sameTable}
 use Rattle.rule.proofs.Schedules.{same-table}
+use Rattle.state.specs.Model.{gateway}
 use Rattle.protocol.specs.IsWellFormed.{isWellFormed}
-use Rattle.history.specs.History.{call, run}
+use Rattle.history.specs.History.{Call, call, run, opening, after}
 use Rattle.numbered.specs.Lists.{callsOf, answerOf, answersOf}
-use Rattle.numbered.specs.Examples.{BatchesPromise}
+use Rattle.numbered.specs.Batch.{dealt}
+use Rattle.numbered.specs.Examples.{Batch, Leaves, AllLeave, batches, BatchesPromise}
+
+module _ (b : Batch) where
+  abbrev calls : List Call
+  calls = dealt gateway (b .kind) (b .crew) (b .table) (b .ops) (b .workers) (b .keys) (b .prices) (b .out)
+
+  abbrev cells : List ℕ
+  cells = after gateway (b .kind) (b .crew) (b .table) calls .table
+
+  abbrev answers : List ℕ
+  answers = answersOf gateway calls (opening gateway (b .kind) (b .crew) (b .table)) ++ drop (length calls) (b .out)
+
+  unfoldable leavesRight : Bool
+  leavesRight = sameTable cells (b .closed) && sameTable answers (b .answers)
+
+  leaves : T leavesRight → Leaves b
+  unfolding leavesRight
+  leaves p = (
+    same-table cells (b .closed) (and-left (sameTable cells (b .closed)) (sameTable answers (b .answers)) p),
+    same-table answers (b .answers) (and-right (sameTable cells (b .closed)) (sameTable answers (b .answers)) p),
+  )
+
+unfoldable allLeave : List Batch → Bool
+allLeave [] = true
+allLeave (b ∷ bs) = leavesRight b && allLeave bs
+
+all-say : (bs : List Batch) → T (allLeave bs) → AllLeave bs
+unfolding allLeave
+all-say [] p = tt
+all-say (b ∷ bs) p = (leaves b (and-left (leavesRight b) (allLeave bs) p), all-say bs (and-right (leavesRight b) (allLeave bs) p))
+
+computed : T (allLeave batches)
+unfolding allLeave leavesRight sameTable callsOf answerOf answersOf call run isWellFormed
+    rule settled absorbed insertStep findStep deleteStep isSoundTable isSound all some clear dist probe prev wrap count
+computed = tt
 
 pub batches-promise : BatchesPromise
-unfolding sameTable callsOf answerOf answersOf call run isWellFormed rule insertStep findStep deleteStep isSound all some clear dist probe prev wrap count
-batches-promise = ((refl, same-table _ _ tt), ((refl, same-table _ _ tt), ((refl, same-table _ _ tt), ((refl, same-table _ _ tt), ((refl, same-table _ _ tt), (refl, same-table _ _ tt))))))
+batches-promise = all-say batches computed

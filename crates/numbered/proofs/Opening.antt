@@ -24,38 +24,38 @@ module _ (M : Model) (k m : ℕ) (t : List ℕ) where
   told : (o : Replied) (r : Reply) → o ≡ openCall M k m t → o .reply ≡ r → openReply M k m t ≡ r
   told o r is read = sym (opened-reply (openReply M k m t)) ∙ ap (λ (x : Replied). x .reply) (sym is) ∙ read
 
-  module _ (ops workers keys out : List ℕ) (o : Replied) (is : o ≡ openCall M k m t) where
+  module _ (ops workers keys prices out : List ℕ) (o : Replied) (is : o ≡ openCall M k m t) where
     dealt-ran : (r : Reply) (p : Phase) (t′ out′ : List ℕ) → o .reply ≡ r
-        → RunGives M (ifAccepted M k m t ops workers keys out r) (opening M k m t) out p t′ out′
-        → Ran M k m t ops workers keys out (record { phase = p; reply = r }) t′ out′
+        → RunGives M (ifAccepted M k m t ops workers keys prices out r) (opening M k m t) out p t′ out′
+        → Ran M k m t ops workers keys prices out (record { phase = p; reply = r }) t′ out′
     dealt-ran r p t′ out′ read h =
         let e = told o r is read in
-        let P : Reply → Type 0 = λ a. RunGives M (ifAccepted M k m t ops workers keys out a) (opening M k m t) out p t′ out′ in
+        let P : Reply → Type 0 = λ a. RunGives M (ifAccepted M k m t ops workers keys prices out a) (opening M k m t) out p t′ out′ in
         record { reply = sym e; gives = subst P (sym e) h }
 
     accepted-ran : (p : Phase) (t′ out′ : List ℕ) → o .reply ≡ Accepted
-        → RunsFrom M (o .phase) t (callsLent ops workers keys out) out p t′ out′
-        → Ran M k m t ops workers keys out (record { phase = p; reply = Accepted }) t′ out′
+        → RunsFrom M (o .phase) t (callsLent ops workers keys prices out) out p t′ out′
+        → Ran M k m t ops workers keys prices out (record { phase = p; reply = Accepted }) t′ out′
     accepted-ran p t′ out′ read h = dealt-ran Accepted p t′ out′ read (h (opening M k m t) (ap (λ (x : Replied). x .phase) (sym is)) refl)
 
     refused-ran : (why : Refusal) → o .reply ≡ Refused why
-        → Ran M k m t ops workers keys out (record { phase = o .phase; reply = Refused why }) t out
+        → Ran M k m t ops workers keys prices out (record { phase = o .phase; reply = Refused why }) t out
     unfolding run answersOf
     refused-ran why read =
         dealt-ran (Refused why) (o .phase) t out read (record { phase = ap (λ (x : Replied). x .phase) is; table = refl; answers = refl })
 
 -- the calls after an accepted opening keep the promises
-promised : (k m : ℕ) (t ops workers keys out : List ℕ) → Promised gateway k m t ops workers keys out
-promised k m t ops workers keys out accepted = history gateway gateway-proper k m t accepted (dealt gateway k m t ops workers keys out)
+promised : (k m : ℕ) (t ops workers keys prices out : List ℕ) → Promised gateway k m t ops workers keys prices out
+promised k m t ops workers keys prices out accepted = history gateway gateway-proper k m t accepted (dealt gateway k m t ops workers keys prices out)
 
 -- ---- what a function that opens a phase and runs the calls has to show
-module _ (k m : ℕ) (t ops workers keys out : List ℕ) (o : Replied) (is : o ≡ openCall gateway k m t) where
+module _ (k m : ℕ) (t ops workers keys prices out : List ℕ) (o : Replied) (is : o ≡ openCall gateway k m t) where
   abbrev Kept : Replied → List ℕ → List ℕ → Type 0
-  Kept r t′ out′ = Ran gateway k m t ops workers keys out r t′ out′ × Promised gateway k m t ops workers keys out
+  Kept r t′ out′ = Ran gateway k m t ops workers keys prices out r t′ out′ × Promised gateway k m t ops workers keys prices out
 
-  pub accepted-kept : (p : Phase) (t′ out′ : List ℕ) → o .reply ≡ Accepted → RunsFrom gateway (o .phase) t (callsLent ops workers keys out) out p t′ out′
+  pub accepted-kept : (p : Phase) (t′ out′ : List ℕ) → o .reply ≡ Accepted → RunsFrom gateway (o .phase) t (callsLent ops workers keys prices out) out p t′ out′
       → Kept (record { phase = p; reply = Accepted }) t′ out′
-  accepted-kept p t′ out′ read h = (accepted-ran gateway k m t ops workers keys out o is p t′ out′ read h, promised k m t ops workers keys out)
+  accepted-kept p t′ out′ read h = (accepted-ran gateway k m t ops workers keys prices out o is p t′ out′ read h, promised k m t ops workers keys prices out)
 
   pub refused-kept : (why : Refusal) → o .reply ≡ Refused why → Kept (record { phase = o .phase; reply = Refused why }) t out
-  refused-kept why read = (refused-ran gateway k m t ops workers keys out o is why read, promised k m t ops workers keys out)
+  refused-kept why read = (refused-ran gateway k m t ops workers keys prices out o is why read, promised k m t ops workers keys prices out)

@@ -11,10 +11,10 @@ use Rattle.history.specs.History.{Call, opening}
 use Rattle.history.specs.Promise.{Claim}
 use Rattle.numbered.specs.Lists.{callsLent, RunGives}
 
-module _ (M : Model) (k m : ℕ) (t ops workers keys out : List ℕ) where
+module _ (M : Model) (k m : ℕ) (t ops workers keys prices out : List ℕ) where
   -- none if the opening is refused
   abbrev pub ifAccepted : Reply → List Call
-  ifAccepted Accepted = callsLent ops workers keys out
+  ifAccepted Accepted = callsLent ops workers keys prices out
   ifAccepted (Refused r) = []
 
   abbrev pub dealt : List Call

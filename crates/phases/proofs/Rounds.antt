@@ -40,39 +40,39 @@ none-busy W s crew z w = by-lt w W
     (λ l. rests (worker s w) (omega (arith, tally-at (λ i. busy (worker s i)) W w l)))
     (λ l. List·getD-eq-default (s .workers) Idle (omega arith))
 
-module _ (k n : ℕ) (home : ℕ → ℕ) where
-  pub steps-ordered : (ws : List ℕ) (s : Run) → run k n home (stepsOf ws) s .ordered ≡ s .ordered
+module _ (k n : ℕ) (key home : ℕ → ℕ) where
+  pub steps-ordered : (ws : List ℕ) (s : Run) → run k n key home (stepsOf ws) s .ordered ≡ s .ordered
   unfolding run stepsOf moved
   steps-ordered [] s = refl
-  steps-ordered (w ∷ ws) s = steps-ordered ws (event k n home (step w) s) ∙ step-by k n home (λ r. r .ordered ≡ s .ordered) w s refl (λ _. refl)
+  steps-ordered (w ∷ ws) s = steps-ordered ws (event k n key home (step w) s) ∙ step-by k n key home (λ r. r .ordered ≡ s .ordered) w s refl (λ _. refl)
 
   -- ---- the number of workers stays
-  event-crew : (e : Event) (s : Run) → length (event k n home e s .workers) ≡ length (s .workers)
+  event-crew : (e : Event) (s : Run) → length (event k n key home e s .workers) ≡ length (s .workers)
   unfolding ordered moved
-  event-crew e s = event-by k n home (λ r. length (r .workers) ≡ length (s .workers)) e s refl (λ w v _ _ _ _. length-set (s .workers) w _) (λ w _. length-set (s .workers) w _)
+  event-crew e s = event-by k n key home (λ r. length (r .workers) ≡ length (s .workers)) e s refl (λ w v _ _ _. length-set (s .workers) w _) (λ w _. length-set (s .workers) w _)
 
-  pub run-crew : (es : List Event) (s : Run) → length (run k n home es s .workers) ≡ length (s .workers)
-  run-crew es s = run-keeps k n home (λ r. length (r .workers) ≡ length (s .workers)) (λ e r h. event-crew e r ∙ h) es s refl
+  pub run-crew : (es : List Event) (s : Run) → length (run k n key home es s .workers) ≡ length (s .workers)
+  run-crew es s = run-keeps k n key home (λ r. length (r .workers) ≡ length (s .workers)) (λ e r h. event-crew e r ∙ h) es s refl
 
   -- ---- one step
-  step-counted : (w : ℕ) (s : Run) → w < length (s .workers) → event k n home (step w) s .counted ≡ busy (worker s w) + s .counted
+  step-counted : (w : ℕ) (s : Run) → w < length (s .workers) → event k n key home (step w) s .counted ≡ busy (worker s w) + s .counted
   unfolding event
-  step-counted w s l = rw (lt-ltb w (length (s .workers)) l) (stepped-counted k n home s w)
+  step-counted w s l = rw (lt-ltb w (length (s .workers)) l) (stepped-counted k n key home s w)
 
-  step-others : (w u : ℕ) (s : Run) → w < u → worker (event k n home (step w) s) u ≡ worker s u
+  step-others : (w u : ℕ) (s : Run) → w < u → worker (event k n key home (step w) s) u ≡ worker s u
   unfolding moved
-  step-others w u s l = step-by k n home (λ r. worker r u ≡ worker s u) w s refl (λ _. getD-set-other (s .workers) w u _ Idle (λ z. omega arith))
+  step-others w u s l = step-by k n key home (λ r. worker r u ≡ worker s u) w s refl (λ _. getD-set-other (s .workers) w u _ Idle (λ z. omega arith))
 
-  idle-step : (w : ℕ) (s : Run) → worker s w ≡ Idle → event k n home (step w) s ≡ s
+  idle-step : (w : ℕ) (s : Run) → worker s w ≡ Idle → event k n key home (step w) s ≡ s
   unfolding event stepped
   idle-step w s is = either (λ r. r ≡ s) (ltb w (length (s .workers))) (rw is) refl
 
   -- ---- a round up to worker w: each worker finds its activity as it was before the round
   unfoldable pub dealt : ℕ → Run → Run
   dealt zero s = s
-  dealt (suc w) s = event k n home (step w) (dealt w s)
+  dealt (suc w) s = event k n key home (step w) (dealt w s)
 
-  pub round-dealt : (w : ℕ) (es : List Event) (s : Run) → run k n home (round w es) s ≡ run k n home es (dealt w s)
+  pub round-dealt : (w : ℕ) (es : List Event) (s : Run) → run k n key home (round w es) s ≡ run k n key home es (dealt w s)
   unfolding round run dealt
   round-dealt zero es s = refl
   round-dealt (suc w) es s = round-dealt w (step w ∷ es) s
@@ -98,14 +98,14 @@ module _ (k n : ℕ) (home : ℕ → ℕ) where
   dealt-idle zero s rest = refl
   dealt-idle (suc w) s rest = rw (dealt-idle w s rest) (idle-step w s (rest w))
 
-  rounds-idle : (W r : ℕ) (s : Run) → AllIdle s → run k n home (rounds W r) s ≡ s
+  rounds-idle : (W r : ℕ) (s : Run) → AllIdle s → run k n key home (rounds W r) s ≡ s
   unfolding rounds run
   rounds-idle W zero s rest = refl
   rounds-idle W (suc r) s rest = rw (round-dealt, dealt-idle W s rest) (rounds-idle W r s rest)
 
   -- ---- after r rounds all workers are idle, or r steps and more have been counted
   pub rounds-rest : (W r : ℕ) (s : Run) → length (s .workers) ≡ W
-      → AllIdle (run k n home (rounds W r) s) ⊎ (s .counted + r ≤ run k n home (rounds W r) s .counted)
+      → AllIdle (run k n key home (rounds W r) s) ⊎ (s .counted + r ≤ run k n key home (rounds W r) s .counted)
   unfolding rounds
   rounds-rest W zero s crew = inr (unfold run in (omega arith))
   rounds-rest W (suc r) s crew = by-lt 0 (over (λ _ a. busy a) Idle W (s .workers))

@@ -10,18 +10,13 @@ use Rattle.text.specs.Digits.{digitsOf}
 use Rattle.text.specs.Numbers.{longestNumber}
 use Rattle.text.specs.Put.{putAt, placeAfter}
 use Rattle.text.proofs.Digits.{few-digits}
-use Rattle.rule.specs.declared.Answer.{Answer}
-use Rattle.rule.specs.declared.Answer.the-variants.{WentOn, Finished, Yes, No, Idle}
 use Rattle.state.specs.Refusals.{numberOf}
 use Rattle.state.specs.declared.Refusal.{Refusal}
-use Rattle.state.specs.declared.Refusal.the-variants.{Size, Crew, Kind, Unsound, OtherTable, NoWorker, Blank, Busy, Full, Working, Shut, ShortList, Spoilt}
+use Rattle.state.specs.declared.Refusal.the-variants.{Size, Crew, Kind, Unsound, OtherTable, NoWorker, Blank, Busy, Full, Working, Shut, ShortList, Spoilt, WrongPrice}
 use Rattle.state.specs.declared.Reply.{Reply}
 use Rattle.state.specs.declared.Reply.the-variants as reply
-use Rattle.protocol.specs.declared.TurnReply.{TurnReply}
-use Rattle.protocol.specs.declared.TurnReply.the-variants as turnReply
-use Rattle.dealing.specs.declared.Ended.{Ended}
-use Rattle.printing.specs.Widths.{wordWidth, replyWidth}
-use Rattle.printing.specs.Fields.{Printed, PrintedWithin, field, answerWord, finishWord, refusalFields, replyFields, turnFields}
+use Rattle.printing.specs.Widths.{replyWidth}
+use Rattle.printing.specs.Fields.{Printed, PrintedWithin, refusalFields, replyFields}
 
 -- bytes for which there is room are written
 pub all-written : {bytes out after : List ℕ} {at behind : ℕ} → at + length bytes ≤ length out
@@ -73,6 +68,7 @@ small Working = omega arith
 small Shut = omega arith
 small ShortList = omega arith
 small Spoilt = omega arith
+small WrongPrice = omega arith
 
 pub two-digits : (r : Refusal) → length (digitsOf (numberOf r)) ≤ 2
 two-digits r = few-digits 1 (numberOf r) (small r)
@@ -80,26 +76,9 @@ two-digits r = few-digits 1 (numberOf r) (small r)
 pub ten-digits : (n : ℕ) → n < 2 ^ 32 → length (digitsOf n) ≤ longestNumber
 ten-digits n h = few-digits 9 n (omega arith)
 
-pub answer-short : (a : Answer) → length (field (answerWord a)) ≤ wordWidth
-answer-short WentOn = omega arith
-answer-short Finished = omega arith
-answer-short Yes = omega arith
-answer-short No = omega arith
-answer-short Idle = omega arith
-
-pub finish-short : (e : Ended) → length (field (finishWord e)) ≤ wordWidth
-finish-short Ended.Nothing = omega arith
-finish-short Ended.Finished = omega arith
-finish-short Ended.Yes = omega arith
-finish-short Ended.No = omega arith
-
-refusal-short : (r : Refusal) → length (refusalFields r) ≤ replyWidth
+pub refusal-short : (r : Refusal) → length (refusalFields r) ≤ replyWidth
 refusal-short r = omega (arith, two-digits r)
 
 pub reply-short : (a : Reply) → length (replyFields a) ≤ replyWidth
 reply-short reply.Accepted = omega arith
 reply-short (reply.Refused r) = refusal-short r
-
-pub turn-short : (a : TurnReply) → length (turnFields a) ≤ replyWidth
-turn-short (turnReply.Answered a) = omega (arith, answer-short a)
-turn-short (turnReply.Refused r) = refusal-short r

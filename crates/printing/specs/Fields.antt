@@ -5,9 +5,10 @@ use Prim.Native.Nat.{ℕ, _+_, _≤_}
 use lib.ListN.{length, take}
 use lib.Seq.{sets}
 use Rattle.text.specs.Digits.{digitsOf}
-use Rattle.words.specs.Words.{keysOf}
+use Rattle.prices.specs.Contents.{label, price}
+use Rattle.words.specs.Words.{entriesOf}
 use Rattle.rule.specs.declared.Answer.{Answer}
-use Rattle.rule.specs.declared.Answer.the-variants.{WentOn, Finished, Yes, No, Idle}
+use Rattle.rule.specs.declared.Answer.the-variants.{WentOn, Finished, Price, No, Idle}
 use Rattle.state.specs.Refusals.{numberOf}
 use Rattle.state.specs.declared.Refusal.{Refusal}
 use Rattle.state.specs.declared.Reply.{Reply}
@@ -23,14 +24,14 @@ use Rattle.printing.specs.declared.Told.the-variants as told
 abbrev pub field : List ℕ → List ℕ
 field word = 9 ∷ word
 
--- ok on done yes no idle bad refused, and - for a worker without an operation
+-- ok on done no idle bad refused, and - for a worker without an operation; a find tells the price instead of a word
 abbrev pub ok : List ℕ
 ok = 111 ∷ 107 ∷ []
 
 abbrev pub answerWord : Answer → List ℕ
 answerWord WentOn = 111 ∷ 110 ∷ []
 answerWord Finished = 100 ∷ 111 ∷ 110 ∷ 101 ∷ []
-answerWord Yes = 121 ∷ 101 ∷ 115 ∷ []
+answerWord (Price q) = digitsOf q
 answerWord No = 110 ∷ 111 ∷ []
 answerWord Idle = 105 ∷ 100 ∷ 108 ∷ 101 ∷ []
 
@@ -59,23 +60,24 @@ turnFields (turnReply.Refused r) = refusalFields r
 abbrev pub finishWord : Ended → List ℕ
 finishWord Ended.Nothing = none
 finishWord Ended.Finished = answerWord Finished
-finishWord Ended.Yes = answerWord Yes
+finishWord (Ended.Price q) = answerWord (Price q)
 finishWord Ended.No = answerWord No
 
 abbrev pub finishFields : List Finish → List ℕ
 finishFields [] = []
 finishFields (f ∷ fs) = field (finishWord (f .ended)) ++ finishFields fs
 
-abbrev pub numberFields : List ℕ → List ℕ
-numberFields [] = []
-numberFields (n ∷ ns) = field (digitsOf n) ++ numberFields ns
+-- of entries: each key followed by its price
+abbrev pub entryFields : List ℕ → List ℕ
+entryFields [] = []
+entryFields (e ∷ es) = field (digitsOf (label e)) ++ (field (digitsOf (price e)) ++ entryFields es)
 
--- in a phase of m workers: a call's answer, how the operations ended in a run, or the count and the keys of the table
+-- in a phase of m workers: a call's answer, how the operations ended in a run, or the count and the entries of the table
 abbrev pub toldFields : Told → ℕ → List Finish → List ℕ → List ℕ
 toldFields (told.Replied r) m fs t = replyFields r
 toldFields (told.Turned r) m fs t = turnFields r
 toldFields told.Ran m fs t = finishFields (take m fs)
-toldFields (told.Listed c) m fs t = field (digitsOf c) ++ numberFields (keysOf t)
+toldFields (told.Listed c) m fs t = field (digitsOf c) ++ entryFields (entriesOf t)
 
 -- ---- the bytes are written into a lent list from a place on, and the place behind them is given
 pub record Printed (bytes out : List ℕ) (at : ℕ) (after : List ℕ) (behind : ℕ) : Type 0 where

@@ -4,12 +4,15 @@ use lib.ListN.{length}
 use Rattle.text.specs.Digits.{mostDigits}
 use Rattle.text.specs.Numbers.{longestNumber}
 use Rattle.state.specs.Model.{gateway}
-use Rattle.printing.specs.Fields.{field, answerWord, refused}
-use Rattle.rule.specs.declared.Answer.the-variants.{Finished}
+use Rattle.printing.specs.Fields.{field, refused}
 
--- a turn's answer, and how a worker's operation ended: `done` is the longest word, and so is `idle`
+-- a number of 32 bits, behind a tab
+abbrev pub numberWidth : ℕ
+numberWidth = 1 + longestNumber
+
+-- a turn's answer, and how a worker's operation ended: no word is longer than a price
 abbrev pub wordWidth : ℕ
-wordWidth = length (field (answerWord Finished))
+wordWidth = numberWidth
 
 -- a reply: `refused`, and the number of a refusal, of at most two digits
 abbrev pub replyWidth : ℕ
@@ -19,13 +22,13 @@ replyWidth = length (field refused) + (1 + 2)
 abbrev pub finishesWidth : ℕ
 finishesWidth = gateway .room * wordWidth
 
--- the count of a list, and one key of it
+-- the count of a list, and one entry of it: a key and its price
 abbrev pub countWidth : ℕ
 countWidth = 1 + mostDigits
 
-abbrev pub keyWidth : ℕ
-keyWidth = 1 + longestNumber
+abbrev pub entryWidth : ℕ
+entryWidth = 2 * numberWidth
 
--- what a line tells of a table of n cells: beside the keys, how the operations ended takes more than a reply and more than a count
+-- what a line tells of a table of n cells: beside the entries, how the operations ended takes more than a reply and more than a count
 abbrev pub toldWidth : ℕ → ℕ
-toldWidth n = finishesWidth + keyWidth * n
+toldWidth n = finishesWidth + entryWidth * n

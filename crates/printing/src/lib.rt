@@ -1,6 +1,7 @@
 // What an output line says behind its number, written into a lent buffer.
 use dealing::Ended;
 use dealing::Finish;
+use prices::PRICES;
 use protocol::TurnReply;
 use rule::Answer;
 use state::Phase;
@@ -10,9 +11,9 @@ ghost use mathlib.Core.List.{[], _∷_, _++_};
 ghost use Prim.Native.Nat.{_+_, _*_, _≤_};
 ghost use lib.ListN.{length, take};
 ghost use Rattle.text.specs.Digits.{digitsOf};
-ghost use Rattle.words.specs.Words.{keysOf};
-ghost use Rattle.printing.specs.Widths.{wordWidth, replyWidth, finishesWidth, countWidth, keyWidth, toldWidth};
-ghost use Rattle.printing.specs.Fields.{Printed, PrintedWithin, field, answerWord, refusalFields, replyFields, turnFields, finishWord, finishFields, numberFields, toldFields};
+ghost use Rattle.words.specs.Words.{entriesOf};
+ghost use Rattle.printing.specs.Widths.{wordWidth, replyWidth, finishesWidth, countWidth, entryWidth, toldWidth};
+ghost use Rattle.printing.specs.Fields.{Printed, PrintedWithin, field, answerWord, refusalFields, replyFields, turnFields, finishWord, finishFields, entryFields, toldFields};
 
 // What a line tells: the answer of a call; that workers ran; how many keys are listed.
 pub enum Told {
@@ -42,12 +43,12 @@ pub fn put_reply(out: &mut [u8], at: usize, reply: Reply) -> usize
 
 fn put_answer(out: &mut [u8], at: usize, answer: Answer) -> usize
     requires { ⌜ at + wordWidth ≤ length (now out) ⌝ }
-    ensures { λ r. ⌜ Printed (field (answerWord answer)) (now (out .entry)) at (now (out .exit)) r ⌝ }
+    ensures { λ r. ⌜ PrintedWithin wordWidth (field (answerWord answer)) (now (out .entry)) at (now (out .exit)) r ⌝ }
 {
     match answer {
         Answer::WentOn => writing::put_bytes(out, at, b"\ton"),
         Answer::Finished => writing::put_bytes(out, at, b"\tdone"),
-        Answer::Yes => writing::put_bytes(out, at, b"\tyes"),
+        Answer::Price(price) => put_field(out, at, price as u64),
         Answer::No => writing::put_bytes(out, at, b"\tno"),
         Answer::Idle => writing::put_bytes(out, at, b"\tidle"),
     }
@@ -55,7 +56,7 @@ fn put_answer(out: &mut [u8], at: usize, answer: Answer) -> usize
 
 pub fn put_turn(out: &mut [u8], at: usize, reply: TurnReply) -> usize
     requires { ⌜ at + replyWidth ≤ length (now out) ⌝ }
-    ensures { λ r. ⌜ Printed (turnFields reply) (now (out .entry)) at (now (out .exit)) r ⌝ }
+    ensures { λ r. ⌜ PrintedWithin replyWidth (turnFields reply) (now (out .entry)) at (now (out .exit)) r ⌝ }
 {
     match reply {
         TurnReply::Answered(answer) => put_answer(out, at, answer),
@@ -65,12 +66,12 @@ pub fn put_turn(out: &mut [u8], at: usize, reply: TurnReply) -> usize
 
 fn put_finish(out: &mut [u8], at: usize, ended: Ended) -> usize
     requires { ⌜ at + wordWidth ≤ length (now out) ⌝ }
-    ensures { λ r. ⌜ Printed (field (finishWord ended)) (now (out .entry)) at (now (out .exit)) r ⌝ }
+    ensures { λ r. ⌜ PrintedWithin wordWidth (field (finishWord ended)) (now (out .entry)) at (now (out .exit)) r ⌝ }
 {
     match ended {
         Ended::Nothing => writing::put_bytes(out, at, b"\t-"),
         Ended::Finished => put_answer(out, at, Answer::Finished),
-        Ended::Yes => put_answer(out, at, Answer::Yes),
+        Ended::Price(price) => put_answer(out, at, Answer::Price(price)),
         Ended::No => put_answer(out, at, Answer::No),
     }
 }
@@ -102,38 +103,39 @@ fn put_field(out: &mut [u8], at: usize, number: u64) -> usize
     writing::put_number(out, behind, number)
 }
 
-// The key of a cell, if it holds one.
-fn put_key(out: &mut [u8], at: usize, key: u32) -> usize
-    requires { ⌜ at + keyWidth ≤ length (now out) ⌝ }
-    ensures { λ r. ⌜ Printed (numberFields (keysOf (key ∷ []))) (now (out .entry)) at (now (out .exit)) r ⌝ }
+// The key and the price of a cell, if it holds a key.
+fn put_entry(out: &mut [u8], at: usize, entry: u64) -> usize
+    requires { ⌜ at + entryWidth ≤ length (now out) ⌝ }
+    ensures { λ r. ⌜ PrintedWithin entryWidth (entryFields (entriesOf (entry ∷ []))) (now (out .entry)) at (now (out .exit)) r ⌝ }
 {
-    if key == 0 {
+    if entry / PRICES == 0 {
         return at;
     }
-    put_field(out, at, key as u64)
+    let behind = put_field(out, at, entry / PRICES);
+    put_field(out, behind, entry % PRICES)
 }
 
-// The keys of a table in cell order.
-fn put_keys(out: &mut [u8], at: usize, cells: &[u32]) -> usize
-    requires { ⌜ at + keyWidth * length (now cells) ≤ length (now out) ⌝ }
-    ensures { λ r. ⌜ PrintedWithin (keyWidth * length (now (cells .entry))) (numberFields (keysOf (now (cells .entry)))) (now (out .entry)) at (now (out .exit)) r ⌝ }
+// The entries of a table in cell order.
+fn put_entries(out: &mut [u8], at: usize, cells: &[u64]) -> usize
+    requires { ⌜ at + entryWidth * length (now cells) ≤ length (now out) ⌝ }
+    ensures { λ r. ⌜ PrintedWithin (entryWidth * length (now (cells .entry))) (entryFields (entriesOf (now (cells .entry)))) (now (out .entry)) at (now (out .exit)) r ⌝ }
 {
     let mut place = at;
     let mut i: usize = 0;
     while i < cells.len() {
-        place = put_key(out, place, cells[i]);
+        place = put_entry(out, place, cells[i]);
         i += 1;
     }
     place
 }
 
-fn put_list(out: &mut [u8], at: usize, count: usize, cells: &[u32]) -> usize
-    requires { ⌜ at + countWidth + keyWidth * length (now cells) ≤ length (now out) ⌝ }
-    ensures { λ r. ⌜ PrintedWithin (countWidth + keyWidth * length (now (cells .entry))) (field (digitsOf count) ++ numberFields (keysOf (now (cells .entry))))
+fn put_list(out: &mut [u8], at: usize, count: usize, cells: &[u64]) -> usize
+    requires { ⌜ at + countWidth + entryWidth * length (now cells) ≤ length (now out) ⌝ }
+    ensures { λ r. ⌜ PrintedWithin (countWidth + entryWidth * length (now (cells .entry))) (field (digitsOf count) ++ entryFields (entriesOf (now (cells .entry))))
         (now (out .entry)) at (now (out .exit)) r ⌝ }
 {
     let behind = put_field(out, at, count as u64);
-    put_keys(out, behind, cells)
+    put_entries(out, behind, cells)
 }
 
 // What a line tells in a phase of `count` workers.
@@ -143,7 +145,7 @@ pub fn put_told(
     told: Told,
     count: usize,
     finishes: [Finish; Phase::ROOM],
-    cells: &[u32],
+    cells: &[u64],
 ) -> usize
     requires { ⌜ at + toldWidth (length (now cells)) ≤ length (now out) ⌝ }
     ensures { λ r. ⌜ PrintedWithin (toldWidth (length (now (cells .entry)))) (toldFields told count finishes (now (cells .entry))) (now (out .entry)) at (now (out .exit)) r ⌝ }

@@ -1,5 +1,6 @@
 // The steps of an insert and of a find, and what all steps share: the touched cell, and the outcomes.
 use activities::Activity;
+use prices::PRICES;
 use rule::Answer;
 use rule::Outcome;
 use rule::Place;
@@ -7,6 +8,8 @@ ghost use mathlib.Core.Path.{_≡_};
 ghost use Prim.Native.Nat.{_<_};
 ghost use Rattle.ring.specs.Ring;
 ghost use Rattle.layout.specs.Home.{modulo};
+ghost use Rattle.prices.specs.Contents;
+ghost use Rattle.prices.specs.Contents.{label};
 ghost use Rattle.activities.specs.Activities.{cellsOf, Below};
 ghost use Rattle.rule.specs.Rule;
 ghost use Rattle.rule.specs.Rule.{insertStep, findStep};
@@ -25,7 +28,7 @@ pub fn touched(activity: Activity) -> Place
 }
 
 // ---- outcomes
-pub fn goes(activity: Activity, content: u32) -> Outcome
+pub fn goes(activity: Activity, content: u64) -> Outcome
     ensures { λ r. ⌜ r ≡ Rule.goes activity content ⌝ }
 {
     Outcome {
@@ -35,7 +38,7 @@ pub fn goes(activity: Activity, content: u32) -> Outcome
     }
 }
 
-pub fn ends(answer: Answer, content: u32) -> Outcome
+pub fn ends(answer: Answer, content: u64) -> Outcome
     ensures { λ r. ⌜ r ≡ Rule.ends answer content ⌝ }
 {
     Outcome {
@@ -45,7 +48,7 @@ pub fn ends(answer: Answer, content: u32) -> Outcome
     }
 }
 
-pub fn unmoved(activity: Activity, content: u32) -> Outcome
+pub fn unmoved(activity: Activity, content: u64) -> Outcome
     ensures { λ r. ⌜ r ≡ Rule.unmoved activity content ⌝ }
 {
     Outcome {
@@ -56,13 +59,13 @@ pub fn unmoved(activity: Activity, content: u32) -> Outcome
 }
 
 // The worker goes on to read the cell after `cell`.
-pub fn reads_on(length: u32, key: u32, cell: u32, content: u32) -> Outcome
+pub fn reads_on(length: u32, entry: u64, cell: u32, content: u64) -> Outcome
     requires { ⌜ cell < length ⌝ }
-    ensures { λ r. ⌜ r ≡ Rule.goes (Activity.Reading key (Ring.next length cell)) content ⌝ }
+    ensures { λ r. ⌜ r ≡ Rule.goes (Activity.Reading entry (Ring.next length cell)) content ⌝ }
 {
     goes(
         Activity::Reading {
-            key,
+            entry,
             cell: geometry::next(length, cell),
         },
         content,
@@ -70,19 +73,44 @@ pub fn reads_on(length: u32, key: u32, cell: u32, content: u32) -> Outcome
 }
 
 // ---- insert
-fn insert_reading(length: u32, key: u32, cell: u32, content: u32) -> Outcome
-    requires { ⌜ cell < length ⌝ }
-    ensures { λ r. ⌜ r ≡ insertStep length (modulo length) (Activity.Reading key cell) content ⌝ }
+// Whether `content` has the key of `entry` and costs no more.
+fn settled(entry: u64, content: u64) -> bool
+    ensures { λ r. ⌜ r ≡ Rule.settled label entry content ⌝ }
 {
-    if key < content {
-        return reads_on(length, key, cell, content);
+    if content / PRICES == entry / PRICES {
+        content <= entry
+    } else {
+        false
     }
-    if content == key {
+}
+
+// Whether `seen`, replaced by `entry`, leaves nothing to carry: it has no key, or that of `entry` at a higher price.
+fn absorbed(entry: u64, seen: u64) -> bool
+    ensures { λ r. ⌜ r ≡ Rule.absorbed label entry seen ⌝ }
+{
+    if seen / PRICES == 0 {
+        return true;
+    }
+    if seen / PRICES == entry / PRICES {
+        entry < seen
+    } else {
+        false
+    }
+}
+
+fn insert_reading(length: u32, entry: u64, cell: u32, content: u64) -> Outcome
+    requires { ⌜ cell < length ⌝ }
+    ensures { λ r. ⌜ r ≡ insertStep length label (modulo length) (Activity.Reading entry cell) content ⌝ }
+{
+    if entry / PRICES < content / PRICES {
+        return reads_on(length, entry, cell, content);
+    }
+    if settled(entry, content) {
         return ends(Answer::Finished, content);
     }
     goes(
         Activity::Replacing {
-            key,
+            entry,
             cell,
             from: cell,
             content,
@@ -92,48 +120,54 @@ fn insert_reading(length: u32, key: u32, cell: u32, content: u32) -> Outcome
 }
 
 // `seen` is what the cell held when it was read; from which cell plays no part.
-fn insert_replacing(length: u32, key: u32, cell: u32, seen: u32, content: u32) -> Outcome
+fn insert_replacing(length: u32, entry: u64, cell: u32, seen: u64, content: u64) -> Outcome
     requires { ⌜ cell < length ⌝ }
-    ensures { λ r. ⌜ r ≡ insertStep length (modulo length) (Activity.Replacing key cell cell seen) content ⌝ }
+    ensures { λ r. ⌜ r ≡ insertStep length label (modulo length) (Activity.Replacing entry cell cell seen) content ⌝ }
 {
     if content != seen {
-        return goes(Activity::Reading { key, cell }, content);
+        return goes(Activity::Reading { entry, cell }, content);
     }
-    if seen == 0 {
-        return ends(Answer::Finished, key);
+    if absorbed(entry, seen) {
+        return ends(Answer::Finished, entry);
     }
-    reads_on(length, seen, cell, key)
+    reads_on(length, seen, cell, entry)
 }
 
-pub fn insert_step(length: u32, activity: Activity, content: u32) -> Outcome
+pub fn insert_step(length: u32, activity: Activity, content: u64) -> Outcome
     requires { ⌜ Below length (cellsOf activity) ⌝ }
-    ensures { λ r. ⌜ r ≡ insertStep length (modulo length) activity content ⌝ }
+    ensures { λ r. ⌜ r ≡ insertStep length label (modulo length) activity content ⌝ }
 {
     match activity {
-        Activity::Reading { key, cell } => insert_reading(length, key, cell, content),
+        Activity::Reading { entry, cell } => insert_reading(length, entry, cell, content),
         Activity::Replacing {
-            key,
+            entry,
             cell,
             content: seen,
             ..
-        } => insert_replacing(length, key, cell, seen, content),
+        } => insert_replacing(length, entry, cell, seen, content),
         _ => unmoved(activity, content),
     }
 }
 
 // ---- find
-pub fn find_step(length: u32, activity: Activity, content: u32) -> Outcome
-    requires { ⌜ Below length (cellsOf activity) ⌝ }
-    ensures { λ r. ⌜ r ≡ findStep length (modulo length) activity content ⌝ }
+fn price_of(content: u64) -> u32
+    ensures { λ r. ⌜ r ≡ Contents.price content ⌝ }
 {
-    let Activity::Reading { key, cell } = activity else {
+    (content % PRICES) as u32
+}
+
+pub fn find_step(length: u32, activity: Activity, content: u64) -> Outcome
+    requires { ⌜ Below length (cellsOf activity) ⌝ }
+    ensures { λ r. ⌜ r ≡ findStep length label (modulo length) activity content ⌝ }
+{
+    let Activity::Reading { entry, cell } = activity else {
         return unmoved(activity, content);
     };
-    if key < content {
-        return reads_on(length, key, cell, content);
+    if entry / PRICES < content / PRICES {
+        return reads_on(length, entry, cell, content);
     }
-    if content == key {
-        return ends(Answer::Yes, content);
+    if content / PRICES == entry / PRICES {
+        return ends(Answer::Price(price_of(content)), content);
     }
     ends(Answer::No, content)
 }

@@ -1,6 +1,6 @@
 -- The calls' sequences of refusals, each test with what it says.
 use mathlib.Core.Path.{_≡_, refl}
-use mathlib.Core.Logic.{_≢_, _↔_, Iff·trans}
+use mathlib.Core.Logic.{_≢_, _⊎_, ⊎-elim}
 use mathlib.Core.Bool.{true, false, not}
 use mathlib.Core.List.{List, [], _∷_, _++_}
 use Prim.Native.Nat.{ℕ, _≤_, _<_}
@@ -8,9 +8,8 @@ use native.Mathlib.Omega.{arith}
 use lib.Dec.{leb, eqb}
 use lib.ListN.{length}
 use borrow.Author.Tests.{leb-true, leb-false}
-use Rattle.ring.proofs.Tests.{not-both, true-says, equal-says, both-say, within-says, by-test}
-use Rattle.layout.specs.Sound.{Sound, isSound}
-use Rattle.layout.proofs.Sound.{isSound-says, isSound-of}
+use Rattle.ring.proofs.Tests.{not-both, equal-says, both-say, within-says, by-test}
+use Rattle.prices.specs.Contents.{isSoundTable}
 use Rattle.activities.specs.Activities.{isIdle}
 use Rattle.activities.specs.Kinds.{kindOk}
 use Rattle.activities.specs.declared.Activity.the-variants.{Idle}
@@ -21,23 +20,22 @@ use Rattle.rule.specs.declared.Place.the-variants.{Nowhere, At}
 use Rattle.state.specs.Model.{Model, sizeOk, crewOk}
 use Rattle.state.specs.Refusals.{replyNumber}
 use Rattle.state.specs.declared.Phase.{Phase}
-use Rattle.state.specs.declared.Refusal.the-variants.{Size, Crew, Kind, Unsound, OtherTable, NoWorker, Blank, Busy, Full, Working, Shut, Spoilt}
-use Rattle.protocol.specs.Bars.{doing, allIdle, usedUp}
+use Rattle.state.specs.declared.Refusal.the-variants.{Size, Crew, Kind, Unsound, OtherTable, NoWorker, Blank, Busy, Full, Working, Shut, Spoilt, WrongPrice}
+use Rattle.protocol.specs.Bars.{doing, allIdle, usedUp, mispriced}
 use Rattle.protocol.specs.Calls.{turnNumber, movedAt, turnCheck, turnCall}
 use Rattle.protocol.specs.IsWellFormed.{isWellFormed}
+use Rattle.protocol.proofs.Pricing.{mispriced-says, priced-says}
+use Rattle.protocol.proofs.Soundness.{sound-says}
 use Rattle.protocol.proofs.Chain.{Step, barring, wanting, by-reply}
 use Rattle.protocol.proofs.WellFormed.{all-idle-says, some-busy, well-formed-says}
 
 -- ---- open
-pub sound-says : (n : ℕ) (home : ℕ → ℕ) (t : List ℕ) → isSound n home t ≡ true ↔ Sound n home t
-sound-says n home t = Iff·trans (true-says (isSound n home t)) (isSound-says n home t, isSound-of n home t)
-
 module _ (M : Model) (t : List ℕ) where
   abbrev pub sizeSteps : List Step
   sizeSteps = wanting (sizeOk M (length t)) (within-says (M .fewestCells) (M .mostCells) (length t)) Size ∷ []
 
   abbrev pub soundSteps : List Step
-  soundSteps = wanting (isSound (length t) (M .home (length t)) t) (sound-says (length t) (M .home (length t)) t) Unsound ∷ []
+  soundSteps = wanting (isSoundTable (length t) (M .home (length t)) t) (sound-says M t) Unsound ∷ []
 
 abbrev pub openSteps : Model → ℕ → ℕ → List ℕ → List Step
 openSteps M k m t =
@@ -47,8 +45,19 @@ openSteps M k m t =
     ∷ soundSteps M t
 
 -- ---- parts of the other calls
-abbrev entrySteps : ℕ → List Step
-entrySteps v = barring (eqb v 0) (equal-says v 0) Blank ∷ []
+abbrev entrySteps : (k v cents : ℕ) → List Step
+entrySteps k v cents =
+    barring (eqb v 0) (equal-says v 0) Blank
+    ∷ record {
+      when = mispriced k cents;
+      why = WrongPrice;
+      passes = k ≡ 1 → (1 ≤ cents) × (cents ≤ 9999999);
+      applies = (k ≡ 1) × ((cents ≡ 0) ⊎ (9999999 < cents));
+      if-true = mispriced-says k cents .0;
+      if-false = priced-says k cents;
+      apart = λ ok (is, h). let (least, most) = ok is in ⊎-elim (λ z. omega arith) (λ l. omega arith) h;
+    }
+    ∷ []
 
 module _ (M : Model) (p : Phase) where
   abbrev phaseSteps : List Step
@@ -79,12 +88,12 @@ module _ (M : Model) (p : Phase) where
       ∷ []
 
   -- ---- order
-  abbrev pub orderSteps : ℕ → ℕ → List Step
-  orderSteps w v =
+  abbrev pub orderSteps : (w v cents : ℕ) → List Step
+  orderSteps w v cents =
       phaseSteps
       ++ numberSteps w
       ++ wanting (isIdle (doing p w)) (idle-says (doing p w)) Busy
-      ∷ entrySteps v
+      ∷ entrySteps (p .kind) v cents
       ++ barring (usedUp (p .kind) (p .left)) (both-say _ _ (equal-says (p .kind) 1) (equal-says (p .left) 0)) Full
       ∷ []
 

@@ -1,15 +1,17 @@
 -- What a call leaves of a phase state, and of the worker that it moves.
-use mathlib.Core.Path.{_≡_, refl, ap}
+use mathlib.Core.Path.{_≡_, refl, ap, _∙_}
 use mathlib.Core.Logic.{_≢_}
 use mathlib.Core.List.{List}
-use Prim.Native.Nat.{ℕ, _<_}
+use Prim.Native.Nat.{ℕ, _≤_, _<_}
 use native.Mathlib.Omega.{arith}
 use lib.ListN.{length, getD, length-set, List·getD-eq-default}
 use lib.Seq.{getD-set-same, getD-set-other}
 use borrow.Author.Tests.{eq-eqb, ne-eqb}
 use Rattle.ring.proofs.Split.{by-lt}
+use Rattle.prices.specs.Contents.{label}
 use Rattle.activities.specs.Activities.{idle}
 use Rattle.activities.specs.declared.Activity.{Activity}
+use Rattle.activities.specs.declared.Activity.the-variants.{Reading}
 use Rattle.activities.specs.declared.Worker.{Worker}
 use Rattle.rule.specs.Rule.{touched, start}
 use Rattle.rule.specs.declared.Place.{Place}
@@ -17,8 +19,9 @@ use Rattle.rule.specs.declared.Place.the-variants.{Nowhere, At}
 use Rattle.state.specs.Model.{Model}
 use Rattle.state.specs.declared.Phase.{Phase}
 use Rattle.protocol.specs.Bars.{doing}
-use Rattle.protocol.specs.Calls.{withWorker, shutPhase, orderedPhase, movedAt}
+use Rattle.protocol.specs.Calls.{entryFor, withWorker, shutPhase, orderedPhase, movedAt}
 use Rattle.protocol.specs.Promise.{Framed, ButFor, Starts, Ends}
+use Rattle.protocol.proofs.Pricing.{entry-priced, entry-bare, entry-key}
 
 -- ---- one worker
 -- a worker that touches a cell is in the list of workers
@@ -46,19 +49,27 @@ but-worker w p a =
     }
 
 -- an order changes its worker and the insert operations left
-pub ordered-starts : (M : Model) (p : Phase) (w v : ℕ) → (p .kind ≡ 1 → p .left ≢ 0) → Starts M p w v (orderedPhase M p w v)
-ordered-starts M p w v some =
-    let h = but-worker w p (start (M .home (p .length)) v) in
-    record {
-      others = record {
-        frame = record { kind = refl; cells = refl; crew = refl; places = h .frame .places };
-        shut = refl;
-        others = h .others;
-      };
-      starts = moved p w (start (M .home (p .length)) v);
-      takes-one = λ is. let z = some is in rw (eq-eqb (p .kind) 1 is) (omega arith);
-      takes-none = λ ne. rw (ne-eqb (p .kind) 1 ne);
-    }
+module _ (M : Model) (p : Phase) (w v cents : ℕ) where
+  abbrev entry : ℕ
+  entry = entryFor (p .kind) v cents
+
+  pub ordered-starts : (p .kind ≡ 1 → (1 ≤ cents) × (cents ≤ 9999999)) → (p .kind ≡ 1 → p .left ≢ 0) → Starts M p w v cents (orderedPhase M p w v cents)
+  ordered-starts ok some =
+      let h = but-worker w p (start label (M .home (p .length)) entry) in
+      let starts : w < length (p .workers) → doing (orderedPhase M p w v cents) w ≡ Reading entry (M .home (p .length) v) = λ l.
+      moved p w (start label (M .home (p .length)) entry) l
+      ∙ ap (λ (x : ℕ). Reading entry (M .home (p .length) x)) (entry-key (p .kind) v cents ok) in
+      record {
+        others = record {
+          frame = record { kind = refl; cells = refl; crew = refl; places = h .frame .places };
+          shut = refl;
+          others = h .others;
+        };
+        starts-priced = λ is l. starts l ∙ ap (λ (x : ℕ). Reading x (M .home (p .length) v)) (entry-priced (p .kind) v cents is);
+        starts = λ ne l. starts l ∙ ap (λ (x : ℕ). Reading x (M .home (p .length) v)) (entry-bare (p .kind) v cents ne);
+        takes-one = λ is. let z = some is in rw (eq-eqb (p .kind) 1 is) (omega arith);
+        takes-none = λ ne. rw (ne-eqb (p .kind) 1 ne);
+      }
 
 pub shut-ends : (p : Phase) → Ends p (shutPhase p)
 shut-ends p = record { frame = record { kind = refl; cells = refl; crew = refl; places = refl }; left = refl; shut = refl; workers = refl }

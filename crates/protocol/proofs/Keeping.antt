@@ -11,6 +11,7 @@ use lib.Seq.{getD-set-same, getD-set-other, set-out}
 use Rattle.ring.proofs.Counting.{count-le}
 use Rattle.ring.proofs.Split.{by-lt, by-eq}
 use Rattle.ring.proofs.Tests.{tested}
+use Rattle.prices.specs.Contents.{label}
 use Rattle.activities.specs.Activities.{idle, Suits}
 use Rattle.activities.specs.declared.Activity.{Activity}
 use Rattle.activities.specs.declared.Activity.the-variants.{Idle}
@@ -25,11 +26,12 @@ use Rattle.state.specs.Refusals.{replyNumber}
 use Rattle.state.specs.declared.Phase.{Phase}
 use Rattle.state.proofs.Model.{gateway-proper}
 use Rattle.protocol.specs.Bars.{doing}
-use Rattle.protocol.specs.Calls.{withWorker, closeReply, closeCall, orderReply, orderCall, turnCheck, movedAt, turnCall}
+use Rattle.protocol.specs.Calls.{entryFor, withWorker, closeReply, closeCall, orderReply, orderCall, turnCheck, movedAt, turnCall}
 use Rattle.protocol.specs.Promise.{KeepsPromise, opened, ordered, turned, closed, NeverSpoiltPromise, PlacesPromise, GatewayNeverSpoilt, Openings, Framed}
 use Rattle.protocol.specs.WellFormed.{Size, Crew, WellFormed}
 use Rattle.protocol.proofs.Chain.{by-reply, none-accepted}
 use Rattle.protocol.proofs.Opening.{resting-formed}
+use Rattle.protocol.proofs.Pricing.{entry-key}
 use Rattle.protocol.proofs.Theorem.{open-passed, opens, order-passed, orders, turn-passed, turns, closes}
 
 -- ---- the phase state, with one worker changed
@@ -41,7 +43,7 @@ changed C ws w a new h u = by-eq u w
     (λ z. rw (getD-set-other ws w u _ idle z) (h u))
 
 module _ (M : Model) (p : Phase) (good : WellFormed M p) where
-  with-worker : (w : ℕ) (a : Activity) → w < p .crew → Suits (p .kind) (p .length) a → WellFormed M (withWorker p w a)
+  with-worker : (w : ℕ) (a : Activity) → w < p .crew → Suits (p .kind) (p .length) label a → WellFormed M (withWorker p w a)
   with-worker w a below new =
       record {
         kind = good .kind;
@@ -49,7 +51,7 @@ module _ (M : Model) (p : Phase) (good : WellFormed M p) where
         crew = good .crew;
         left = good .left;
         past = changed (λ u b. p .crew ≤ u → b ≡ Idle) (p .workers) w a (λ l. absurd (omega arith)) (good .past);
-        workers = changed (λ u b. u < p .crew → Suits (p .kind) (p .length) b) (p .workers) w a (λ _. new) (good .workers);
+        workers = changed (λ u b. u < p .crew → Suits (p .kind) (p .length) label b) (p .workers) w a (λ _. new) (good .workers);
       }
 
   pub close-keeps : WellFormed M (closeCall M p .phase)
@@ -57,11 +59,12 @@ module _ (M : Model) (p : Phase) (good : WellFormed M p) where
       (λ e. rw e (record { kind = good .kind; size = good .size; crew = good .crew; left = good .left; past = good .past; workers = good .workers }))
       (λ _ e. rw e good)
 
-  pub order-keeps : (w v : ℕ) → M .home (p .length) v < p .length → WellFormed M (orderCall M p w v .phase)
-  order-keeps w v at-home = by-reply (orderReply M p w v)
+  pub order-keeps : (w v cents : ℕ) → M .home (p .length) v < p .length → WellFormed M (orderCall M p w v cents .phase)
+  order-keeps w v cents at-home = by-reply (orderReply M p w v cents)
       (λ e.
-      let q = order-passed M p w v e in
-      let h = with-worker w (start (M .home (p .length)) v) (q .below) (q .key, at-home) in
+      let q = order-passed M p w v cents e in
+      let same = entry-key (p .kind) v cents (q .price) in
+      let h = with-worker w (start label (M .home (p .length)) (entryFor (p .kind) v cents)) (q .below) (rw same (q .key), rw same at-home) in
       rw e
       (record {
         kind = h .kind;
@@ -78,12 +81,13 @@ module _ (M : Model) (p : Phase) (good : WellFormed M p) where
     where
       at-place : w < p .crew → (q : Place) → WellFormed M (movedAt M p t w q .phase)
       at-place below Nowhere = good
-      at-place below (At c) = with-worker w _ below (rule-suits (p .kind) (p .length) (M .home (p .length)) (doing p w) (getD t c 0) (good .workers w below))
+      at-place below (At c) =
+          with-worker w _ below (rule-suits (p .kind) (p .length) label (M .home (p .length)) (doing p w) (getD t c 0) (good .workers w below))
 
 pub keeps : KeepsPromise
 keeps M proper p good =
     record {
-      order = λ w v. order-keeps M p good w v (proper .homes (p .length) v (omega (arith, proper .some, good .size)));
+      order = λ w v cents. order-keeps M p good w v cents (proper .homes (p .length) v (omega (arith, proper .some, good .size)));
       turn = turn-keeps M p good;
       close = close-keeps M p good;
     }
@@ -108,7 +112,7 @@ open-formed M proper two one k m t = by-eq (replyNumber (openCall M k m t .reply
 -- ---- and later calls
 pub never-spoilt : NeverSpoiltPromise
 never-spoilt M proper two one p (opened k m t) = open-formed M proper two one k m t
-never-spoilt M proper two one p (ordered q h w v) = keeps M proper q (never-spoilt M proper two one q h) .order w v
+never-spoilt M proper two one p (ordered q h w v cents) = keeps M proper q (never-spoilt M proper two one q h) .order w v cents
 never-spoilt M proper two one p (turned q h t w) = keeps M proper q (never-spoilt M proper two one q h) .turn t w
 never-spoilt M proper two one p (closed q h) = keeps M proper q (never-spoilt M proper two one q h) .close
 
@@ -121,8 +125,8 @@ pub places : PlacesPromise
 places M p (opened k m t) =
     let o = opens M k m t in
     by-eq (replyNumber (openCall M k m t .reply)) 0 (λ z. o .accepted z .places) (λ z. o .refused z .places)
-places M p (ordered q h w v) = let o = orders M q w v in
-    same-places q _ (replyNumber (orderCall M q w v .reply)) (λ z. o .accepted z .others .frame) (o .refused) ∙ places M q h
+places M p (ordered q h w v cents) = let o = orders M q w v cents in
+    same-places q _ (replyNumber (orderCall M q w v cents .reply)) (λ z. o .accepted z .others .frame) (o .refused) ∙ places M q h
 places M p (turned q h t w) = turns M q t w .others .frame .places ∙ places M q h
 places M p (closed q h) = let o = closes M q in
     same-places q _ (replyNumber (closeCall M q .reply)) (λ z. o .accepted z .frame) (o .refused) ∙ places M q h

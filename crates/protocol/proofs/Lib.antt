@@ -3,8 +3,11 @@ pub mod Calls
 pub mod Chain
 pub mod Frames
 pub mod Keeping
+pub mod Meeting
 pub mod Opening
 pub mod Ordering
+pub mod Pricing
+pub mod Soundness
 pub mod Split
 pub mod Theorem
 pub mod Turning

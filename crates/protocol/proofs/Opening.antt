@@ -1,16 +1,20 @@
 -- What an opening hands back: a phase state with all workers idle.
-use mathlib.Core.Path.{_≡_, refl, ap}
+use mathlib.Core.Path.{_≡_, refl, ap, ap₂}
 use mathlib.Core.Logic.{_≢_}
 use mathlib.Core.Bool.{Bool}
-use mathlib.Core.List.{List}
-use Prim.Native.Nat.{ℕ, suc, _<_}
+use mathlib.Core.List.{List, [], _∷_}
+use Prim.Native.Nat.{ℕ, suc, _+_, _<_}
 use native.Mathlib.Omega.{arith}
 use lib.Dec.{eqb}
 use lib.ListN.{length, getD, length-replicate}
 use borrow.Author.Tests.{eq-eqb, ne-eqb}
-use Rattle.ring.specs.Counting.{bit}
+use Rattle.ring.specs.Counting.{bit, count}
 use Rattle.ring.proofs.Counting.{tally-at, count-sum}
+use Rattle.ring.proofs.Split.{by-eq}
 use Rattle.layout.specs.Sound.{Sound, vacant}
+use Rattle.prices.specs.Contents.{label, SoundTable}
+use Rattle.prices.specs.Priced.{labels}
+use Rattle.prices.proofs.Contents.{contents}
 use Rattle.activities.specs.Activities.{idle}
 use Rattle.activities.specs.Kinds.{allowance}
 use Rattle.activities.specs.declared.Worker.{Worker}
@@ -56,8 +60,22 @@ some-vacant n home t ok =
       ap bit (eq-eqb (getD t c 0) 0 (ok .gap .is)),
     )
 
-pub insert-allowance : (k n : ℕ) (home : ℕ → ℕ) (t : List ℕ) → Sound n home t → k ≡ 1 → suc (allowance k t) ≡ vacant t
-insert-allowance k n home t ok is = let z = some-vacant n home t ok in rw (eq-eqb k 1 is) (omega arith)
+-- where every cell without a key is 0, the cells without a key are the empty ones
+whole-vacant : (t : List ℕ) → ((j : ℕ) → label (getD t j 0) ≡ 0 → getD t j 0 ≡ 0) → vacant (labels label t) ≡ vacant t
+unfolding count
+whole-vacant [] whole = refl
+whole-vacant (x ∷ xs) whole = ap₂ _+_ (ap bit (same x (whole 0))) (whole-vacant xs (λ j. whole (suc j)))
+  where
+    same : (y : ℕ) → (label y ≡ 0 → y ≡ 0) → eqb (label y) 0 ≡ eqb y 0
+    same y h = by-eq y 0 (λ z. rw z) (λ z. rw (ne-eqb y 0 z, ne-eqb (label y) 0 (λ e. z (h e))))
+
+pub sound-vacant : (n : ℕ) (home : ℕ → ℕ) (t : List ℕ) → SoundTable n home t → vacant (labels label t) ≡ vacant t
+sound-vacant n home t ok = whole-vacant t (contents .priced n home t ok .whole)
+
+pub insert-allowance : (k n : ℕ) (home : ℕ → ℕ) (t : List ℕ) → SoundTable n home t → k ≡ 1 → suc (allowance k t) ≡ vacant t
+insert-allowance k n home t ok is =
+    let z = some-vacant n home (labels label t) (ok .paths) in
+    rw (eq-eqb k 1 is) (omega (arith, sound-vacant n home t ok))
 
 pub other-allowance : (k : ℕ) (t : List ℕ) → k ≢ 1 → allowance k t ≡ 0
 other-allowance k t ne = rw (ne-eqb k 1 ne)

@@ -13,7 +13,7 @@ splits =
       turn = λ M p formed up t fits w below.
           let (e, f) = turn-by-one M p t w (well-formed-says M p .1 formed) up fits below in
           record { phase = ap (λ (x : Turned). x .phase) (sym e); reply = ap (λ (x : Turned). x .reply) (sym e); table = sym f };
-      order = λ M p formed up w below v.
-          let e = order-by-one M p w v (well-formed-says M p .1 formed) up below in
+      order = λ M p formed up w below v cents.
+          let e = order-by-one M p w v cents (well-formed-says M p .1 formed) up below in
           record { phase = ap (λ (x : Replied). x .phase) (sym e); reply = ap (λ (x : Replied). x .reply) (sym e) };
     }

@@ -3,16 +3,18 @@ use mathlib.Core.Path.{_≡_, refl, sym, _∙_, ap}
 use mathlib.Core.Logic.{_≢_}
 use mathlib.Core.Bool.{true, false}
 use mathlib.Core.List.{List}
-use Prim.Native.Nat.{ℕ, _<_}
+use Prim.Native.Nat.{ℕ, _≤_, _<_}
 use native.Mathlib.Omega.{arith}
 use lib.ListN.{length}
+use borrow.Author.Tests.{ne-eqb}
 use Rattle.ring.proofs.Split.{by-lt}
+use Rattle.prices.specs.Contents.{label}
 use Rattle.activities.specs.Kinds.{allowance}
 use Rattle.activities.specs.declared.Activity.the-variants.{Idle}
 use Rattle.activities.proofs.Activities.{cells-below}
 use Rattle.rule.specs.Rule.{touched}
 use Rattle.rule.specs.declared.Answer.{Answer}
-use Rattle.rule.specs.declared.Answer.the-variants.{Yes, No}
+use Rattle.rule.specs.declared.Answer.the-variants.{Price, No}
 use Rattle.rule.specs.declared.Place.the-variants.{At}
 use Rattle.rule.proofs.Suits.{touched-below}
 use Rattle.state.specs.Model.{Model}
@@ -20,20 +22,23 @@ use Rattle.state.specs.Open.{openReply, openCall}
 use Rattle.state.specs.Refusals.{replyNumber}
 use Rattle.state.specs.declared.Phase.{Phase}
 use Rattle.state.specs.declared.Refusal.{Refusal}
+use Rattle.state.specs.declared.Reply.{Reply}
 use Rattle.state.specs.declared.Reply.the-variants.{Accepted, Refused}
 use Rattle.protocol.specs.Bars.{doing}
-use Rattle.protocol.specs.Calls.{turnNumber, closeReply, closeCall, orderReply, orderCall, turnCheck, movedAt, turnCall}
+use Rattle.protocol.specs.Calls.{turnNumber, closeReply, closeCall, orderReply, ordered, orderCall, turnCheck, movedAt, turnCall}
 use Rattle.protocol.specs.Cases.{Decides}
-use Rattle.protocol.specs.Promise.{SoundTable, openCases, UsedUp, orderCases, Answers, turnCases, WellFormedPromise, OpenPromise, OrderPromise, TurnPromise, ClosePromise}
+use Rattle.protocol.specs.Promise.{SoundIn, openCases, UsedUp, orderCases, Answers, turnCases, WellFormedPromise, OpenPromise, OrderPromise, TurnPromise, ClosePromise}
 use Rattle.protocol.specs.WellFormed.{Size, Crew, Kind, WellFormed}
 use Rattle.protocol.specs.declared.TurnReply.the-variants.{Answered}
-use Rattle.protocol.proofs.Answering.{moved-answers, moved-yes, moved-no}
+use Rattle.protocol.proofs.Answering.{moved-answers, moved-price, moved-no}
 use Rattle.protocol.proofs.Calls.{openSteps, orderSteps, turnSteps, turn-number, closeSteps}
 use Rattle.protocol.proofs.Chain.{decides, by-reply, none-accepted}
 use Rattle.protocol.proofs.Frames.{but-self, ordered-starts, shut-ends, moved-others, moved-left}
+use Rattle.protocol.proofs.Meeting.{moved-stands, moved-undercut, moved-replaced, moved-carries}
 use Rattle.protocol.proofs.Opening.{fresh-resting, insert-allowance, other-allowance}
 use Rattle.protocol.proofs.WellFormed.{well-formed-says}
-use Rattle.protocol.proofs.Writing.{cells-written, cells-inserted, cells-deleted}
+use Rattle.protocol.proofs.Soundness.{sounds}
+use Rattle.protocol.proofs.Writing.{cells-written, cells-inserted, cells-deleted, cells-emptied}
 
 pub well-formed : WellFormedPromise
 well-formed = well-formed-says
@@ -50,10 +55,10 @@ module _ (M : Model) (k m : ℕ) (t : List ℕ) where
   open-decides = decides (openSteps M k m t) refl (replyNumber (openCall M k m t .reply)) open-number
 
   -- what an accepted opening has passed
-  pub open-passed : openReply M k m t ≡ Accepted → Size M (length t) × Crew M m × Kind k × SoundTable M t
+  pub open-passed : openReply M k m t ≡ Accepted → Size M (length t) × Crew M m × Kind k × SoundIn M t
   open-passed e =
       let (_, (_, (_, (_, none)))) = open-decides in
-      let ((((_, size), crew), kind), sound) = none .0 (open-number ∙ ap replyNumber e) in (size, crew, kind, sound)
+      let ((((_, size), crew), kind), sound) = none .0 (open-number ∙ ap replyNumber e) in (size, crew, kind, sounds M t .1 sound)
 
   open-refused {ℓ} : {C : Type ℓ} → replyNumber (openCall M k m t .reply) ≢ 0 → ((q : Refusal) → openReply M k m t ≡ Refused q → C) → C
   open-refused z f = by-reply (openReply M k m t) (λ e. absurd (z (open-number ∙ ap replyNumber e))) f
@@ -75,12 +80,12 @@ opens M k m t =
     }
 
 -- ---- order
-module _ (M : Model) (p : Phase) (w v : ℕ) where
-  order-number : replyNumber (orderCall M p w v .reply) ≡ replyNumber (orderReply M p w v)
-  order-number = by-reply (orderReply M p w v) (λ e. rw e) (λ _ e. rw e)
+module _ (M : Model) (p : Phase) (w v cents : ℕ) where
+  order-number : replyNumber (orderCall M p w v cents .reply) ≡ replyNumber (orderReply M p w v cents)
+  order-number = by-reply (orderReply M p w v cents) (λ e. rw e) (λ _ e. rw e)
 
-  order-decides : Decides (replyNumber (orderCall M p w v .reply)) (orderCases M p w v)
-  order-decides = decides (orderSteps M p w v) refl (replyNumber (orderCall M p w v .reply)) order-number
+  order-decides : Decides (replyNumber (orderCall M p w v cents .reply)) (orderCases M p w v cents)
+  order-decides = decides (orderSteps M p w v cents) refl (replyNumber (orderCall M p w v cents .reply)) order-number
 
   -- what an accepted order has passed
   pub record Passed : Type 0 where
@@ -89,23 +94,37 @@ module _ (M : Model) (p : Phase) (w v : ℕ) where
     pub below : w < p .crew
     pub free : doing p w ≡ Idle
     pub key : v ≢ 0
+    pub price : p .kind ≡ 1 → (1 ≤ cents) × (cents ≤ 9999999)
     pub left : UsedUp p → ⊥
 
-  pub order-passed : orderReply M p w v ≡ Accepted → Passed
+  pub order-passed : orderReply M p w v cents ≡ Accepted → Passed
   order-passed e =
-      let (_, (_, (_, (_, (_, (_, none)))))) = order-decides in
-      let ((((((_, formed), running), below), free), key), left) = none .0 (order-number ∙ ap replyNumber e) in
-      record { formed = formed; running = running; below = below; free = free; key = key; left = left }
+      let (_, (_, (_, (_, (_, (_, (_, none))))))) = order-decides in
+      let (((((((_, formed), running), below), free), key), price), left) = none .0 (order-number ∙ ap replyNumber e) in
+      record { formed = formed; running = running; below = below; free = free; key = key; price = price; left = left }
+
+  -- an order of another price, outside insert phases
+  module _ (ne : p .kind ≢ 1) (other : ℕ) where
+    same-answer : (r : Reply) → ordered M p w v other r ≡ ordered M p w v cents r
+    same-answer Accepted = rw (ne-eqb (p .kind) 1 ne)
+    same-answer (Refused q) = refl
+
+    order-unread : orderCall M p w v other ≡ orderCall M p w v cents
+    order-unread =
+        let same : orderReply M p w v other ≡ orderReply M p w v cents = rw (ne-eqb (p .kind) 1 ne) in
+        ap (ordered M p w v other) same ∙ same-answer (orderReply M p w v cents)
 
 pub orders : OrderPromise
-orders M p w v =
-    let is = order-number M p w v in
+orders M p w v cents =
+    let is = order-number M p w v cents in
     record {
-      answers = order-decides M p w v;
-      refused = λ z. by-reply (orderReply M p w v) (λ e. absurd (z (is ∙ ap replyNumber e))) (λ _ e. rw e);
+      answers = order-decides M p w v cents;
+      refused = λ z. by-reply (orderReply M p w v cents) (λ e. absurd (z (is ∙ ap replyNumber e))) (λ _ e. rw e);
       accepted = λ z.
-          let e = none-accepted (orderReply M p w v) (sym is ∙ z) in
-          rw e (ordered-starts M p w v (λ insert none. order-passed M p w v e .left (insert, none)));
+          let e = none-accepted (orderReply M p w v cents) (sym is ∙ z) in
+          let q = order-passed M p w v cents e in
+          rw e (ordered-starts M p w v cents (q .price) (λ insert none. q .left (insert, none)));
+      unread = order-unread M p w v cents;
     }
 
 -- ---- turn
@@ -126,7 +145,7 @@ module _ (M : Model) (p : Phase) (t : List ℕ) (w : ℕ) where
   pub inside : (c : ℕ) → turnCheck M p t w ≡ Accepted → touched (doing p w) ≡ At c → c < length t
   inside c e is =
       let (formed, _, cells, below) = turn-passed e in
-      omega (arith, touched-below (p .length) (doing p w) c (cells-below (p .kind) (p .length) (doing p w) (formed .workers w below)) is)
+      omega (arith, touched-below (p .length) (doing p w) c (cells-below (p .kind) (p .length) label (doing p w) (formed .workers w below)) is)
 
   -- a turn with an answer was accepted, and moved its worker
   turn-answered {ℓ} : {C : Type ℓ} (r : Answer) → turnCall M p t w .reply ≡ Answered r
@@ -148,13 +167,19 @@ turns M p t w =
       idle = λ i. by-reply (turnCheck M p t w) (λ e. rw (e, i) (refl, refl)) (λ _ e. rw e (refl, refl));
       idle-answer = λ i z. rw (turn-accepted M p t w z, i);
       answered = answer-told M p t w;
-      says-yes = λ e c on. turn-answered M p t w Yes e (λ _ f. moved-yes M p t w c (rw on at f));
+      says-price = λ q e c on. turn-answered M p t w (Price q) e (λ _ f. moved-price M p t w c q (rw on at f));
       says-no = λ e c on. turn-answered M p t w No e (λ _ f. moved-no M p t w c (rw on at f));
       writes = λ c ne. by-reply (turnCheck M p t w) (λ e. rw e (cells-written M p t w place refl c (rw e at ne))) (λ _ e. absurd (ne (rw e)));
       inserts = λ z kind v i j x on held.
           let e = turn-accepted M p t w z in rw e (cells-inserted M p t w v i j x on (inside M p t w i e (ap touched on)) kind held);
-      deletes = λ z kind v i j x on held.
-          let e = turn-accepted M p t w z in rw e (cells-deleted M p t w v i j x on (inside M p t w i e (ap touched on)) kind held);
+      deletes = λ z kind v i j x on held some.
+          let e = turn-accepted M p t w z in rw e (cells-deleted M p t w v i j x on (inside M p t w i e (ap touched on)) kind held some);
+      empties = λ z kind v i j x on held none.
+          let e = turn-accepted M p t w z in rw e (cells-emptied M p t w v i j x on (inside M p t w i e (ap touched on)) kind held none);
+      stands = λ z kind v i on own l. rw (turn-accepted M p t w z) (moved-stands M p t w kind v i on own l);
+      undercuts = λ z kind v i on own l. rw (turn-accepted M p t w z) (moved-undercut M p t w kind v i on own l);
+      ends = λ z kind v i j x on held h. rw (turn-accepted M p t w z) (moved-replaced M p t w kind v i j x on held h);
+      carries = λ z kind v i j x on held nz h. rw (turn-accepted M p t w z) (moved-carries M p t w kind v i j x on held nz h);
       others = by-reply (turnCheck M p t w) (λ e. rw e (moved-others M p t w place)) (λ _ e. rw e (but-self w p));
       left = by-reply (turnCheck M p t w) (λ e. rw e (moved-left M p t w place)) (λ _ e. rw e);
     }

@@ -11,6 +11,7 @@ use Rattle.rule.specs.declared.Outcome.{Outcome}
 use Rattle.rule.specs.declared.Place.{Place}
 use Rattle.rule.specs.declared.Place.the-variants.{Nowhere, At}
 use Rattle.rule.specs.Rule.{touched, rule}
+use Rattle.prices.specs.Contents.{label}
 use Rattle.activities.specs.Activities.{idle, cellsOf, activityOk, Below}
 use Rattle.state.specs.Model.{Model}
 use Rattle.state.specs.declared.Phase.{Phase}
@@ -28,9 +29,9 @@ use Rattle.protocol.specs.Split.{oneAt, oneCellsAt, oneTurn, oneTable}
 use Rattle.protocol.specs.IsWellFormed.{isWellFormed}
 
 -- ---- one worker by itself
-module _ (k n : ℕ) (t : List ℕ) (w : Worker) (ok : activityOk k n (w .activity) ≡ true) (fits : n ≡ length t) where
+module _ (k n : ℕ) (t : List ℕ) (w : Worker) (ok : activityOk k n label (w .activity) ≡ true) (fits : n ≡ length t) where
   pub one-within : Below n (cellsOf (w .activity))
-  one-within = cells-below k n (w .activity) (suits-says k n (w .activity) .0 ok)
+  one-within = cells-below k n label (w .activity) (suits-says k n label (w .activity) .0 ok)
 
   pub one-below : (c : ℕ) → touched (w .activity) ≡ At c → c < length t
   one-below c e = let h = touched-below n (w .activity) c one-within e in omega arith
@@ -40,7 +41,7 @@ module _ (M : Model) (k n : ℕ) (t : List ℕ) (w : Worker) where
       → (_≡_ {A = Moved} (record { worker = w; reply = turnReply.Answered answer.Idle }) (oneTurn M k n t w)) × (t ≡ oneTable M k n t w)
   one-idle e = (rw e, rw e)
 
-  pub one-made : (c : ℕ) (o : Outcome) → touched (w .activity) ≡ At c → o ≡ rule k n (M .home n) (w .activity) (getD t c 0)
+  pub one-made : (c : ℕ) (o : Outcome) → touched (w .activity) ≡ At c → o ≡ rule k n label (M .home n) (w .activity) (getD t c 0)
       → (_≡_ {A = Moved} (record { worker = record { activity = o .activity }; reply = turnReply.Answered (o .answer) }) (oneTurn M k n t w))
       × (set t c (o .content) ≡ oneTable M k n t w)
   one-made c o e h = (rw (e, h), rw (e, h))

@@ -8,6 +8,7 @@ use native.Mathlib.Omega.{arith}
 use lib.Dec.{ltb}
 use lib.ListN.{length, getD, drop, drop-of-length-le}
 use lib.Seq.{drop-cons}
+use Rattle.prices.specs.Contents.{label}
 use Rattle.activities.specs.Activities.{idle, isIdle, activityOk}
 use Rattle.activities.specs.declared.Activity.{Activity}
 use Rattle.activities.specs.declared.Worker.{Worker}
@@ -35,7 +36,7 @@ abbrev at : List Worker → ℕ → Activity
 at ws i = getD ws i idle .activity
 
 workersOk-from : (k n m i : ℕ) (ws : List Worker) → i < length ws → workersOk k n m i (drop i ws)
-    ≡ cond (cond (ltb i m) (activityOk k n (at ws i)) (isIdle (at ws i))) (workersOk k n m (i + 1) (drop (i + 1) ws)) false
+    ≡ cond (cond (ltb i m) (activityOk k n label (at ws i)) (isIdle (at ws i))) (workersOk k n m (i + 1) (drop (i + 1) ws)) false
 workersOk-from k n m i ws h = rw (add-one, drop-cons ws i idle)
 
 -- in a walk over the workers, i of them passed: the phase is well formed if the others are
@@ -47,7 +48,7 @@ pub record Passed (M : Model) (p : Phase) (i : ℕ) : Type 0 where
 module _ (M : Model) (p : Phase) (i : ℕ) (s : Passed M p i) where
   -- the test of the next worker
   abbrev next : Bool
-  next = cond (ltb i (p .crew)) (activityOk (p .kind) (p .length) (at (p .workers) i)) (isIdle (at (p .workers) i))
+  next = cond (ltb i (p .crew)) (activityOk (p .kind) (p .length) label (at (p .workers) i)) (isIdle (at (p .workers) i))
 
   module _ (more : i < M .room) (b : Bool) (told : b ≡ next) where
     on : isWellFormed M p ≡ cond b (workersOk (p .kind) (p .length) (p .crew) (i + 1) (drop (i + 1) (p .workers))) false

@@ -12,6 +12,7 @@ use lib.ListN.{getD}
 use borrow.Author.Tests.{lt-ltb, le-ltb}
 use Rattle.ring.proofs.Split.{by-lt}
 use Rattle.ring.proofs.Tests.{tested, not-both, less-says, both-say, within-says}
+use Rattle.prices.specs.Contents.{label}
 use Rattle.activities.specs.Activities.{idle, isIdle, activityOk, Suits}
 use Rattle.activities.specs.Kinds.{kindOk}
 use Rattle.activities.specs.declared.Activity.{Activity}
@@ -53,19 +54,19 @@ some-busy (x ∷ ws) = tested (λ b. b ≡ false → (w : ℕ) × (at (x ∷ ws)
 -- what is tested of worker i: below the count m it has an activity that the kind has, past it it is idle
 module _ (k n m : ℕ) where
   abbrev Fine : ℕ → Activity → Type 0
-  Fine i a = (m ≤ i → a ≡ Idle) × (i < m → Suits k n a)
+  Fine i a = (m ≤ i → a ≡ Idle) × (i < m → Suits k n label a)
 
-  fine-says : (i : ℕ) (a : Activity) → cond (ltb i m) (activityOk k n a) (isIdle a) ≡ true ↔ Fine i a
+  fine-says : (i : ℕ) (a : Activity) → cond (ltb i m) (activityOk k n label a) (isIdle a) ≡ true ↔ Fine i a
   fine-says i a =
       by-lt i m
-      (λ l. rw (lt-ltb i m l) (λ e. (λ g. absurd (omega arith), λ _. suits-says k n a .0 e), λ h. suits-says k n a .1 (h .1 l)))
+      (λ l. rw (lt-ltb i m l) (λ e. (λ g. absurd (omega arith), λ _. suits-says k n label a .0 e), λ h. suits-says k n label a .1 (h .1 l)))
       (λ l. rw (le-ltb i m l) (λ e. (λ _. idle-says a .0 e, λ g. absurd (omega arith)), λ h. idle-says a .1 (h .0 l)))
 
   workers-say : (i : ℕ) (ws : List Worker) → workersOk k n m i ws ≡ true ↔ ((j : ℕ) → Fine (i + j) (at ws j))
   workers-say i [] = (λ _ j. (λ _. refl, λ _. tt), λ _. refl)
   workers-say i (x ∷ ws) =
       let rest = simp suc-add at (workers-say (suc i) ws) in
-      Iff·trans (both-say (cond (ltb i m) (activityOk k n (x .activity)) (isIdle (x .activity))) _ (fine-says i (x .activity)) rest)
+      Iff·trans (both-say (cond (ltb i m) (activityOk k n label (x .activity)) (isIdle (x .activity))) _ (fine-says i (x .activity)) rest)
       (simp unary-clauses at (each-says (λ j a. Fine (i + j) a) x ws))
 
 -- ---- the phase state
@@ -86,5 +87,5 @@ well-formed-says M p =
     (to, λ h. s .1 ((h .kind, (h .size, (h .crew, h .left))), λ w. (λ l. h .past w (omega arith), λ l. h .workers w (omega arith))))
 
 -- a worker below the count has an activity that the kind has
-pub good-worker : (M : Model) (p : Phase) → isWellFormed M p ≡ true → (w : ℕ) → w < p .crew → activityOk (p .kind) (p .length) (doing p w) ≡ true
-good-worker M p good w below = suits-says (p .kind) (p .length) (doing p w) .1 (well-formed-says M p .0 good .workers w below)
+pub good-worker : (M : Model) (p : Phase) → isWellFormed M p ≡ true → (w : ℕ) → w < p .crew → activityOk (p .kind) (p .length) label (doing p w) ≡ true
+good-worker M p good w below = suits-says (p .kind) (p .length) label (doing p w) .1 (well-formed-says M p .0 good .workers w below)

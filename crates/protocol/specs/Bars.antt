@@ -1,16 +1,17 @@
 -- The refusals of the calls on a phase, each call's in its sequence: the first whose test holds is given. (The opening's: state/specs/Open.)
-use mathlib.Core.Bool.{Bool, true, false, cond}
+use mathlib.Core.Bool.{Bool, true, false, not, cond}
 use mathlib.Core.List.{List, [], _∷_, _++_}
 use Prim.Native.Nat.{ℕ}
 use lib.Dec.{leb, eqb}
 use lib.ListN.{length, getD}
+use Rattle.prices.specs.Contents.{priceOk}
 use Rattle.activities.specs.Activities.{idle, isIdle}
 use Rattle.activities.specs.declared.Activity.{Activity}
 use Rattle.activities.specs.declared.Worker.{Worker}
 use Rattle.state.specs.Model.{Model}
 use Rattle.state.specs.Refusals.{Bar, if, unless}
 use Rattle.state.specs.declared.Phase.{Phase}
-use Rattle.state.specs.declared.Refusal.the-variants.{OtherTable, NoWorker, Blank, Busy, Full, Working, Shut, Spoilt}
+use Rattle.state.specs.declared.Refusal.the-variants.{OtherTable, NoWorker, Blank, Busy, Full, Working, Shut, Spoilt, WrongPrice}
 use Rattle.protocol.specs.IsWellFormed.{isWellFormed}
 
 -- what worker w is doing
@@ -25,14 +26,18 @@ allIdle (w ∷ ws) = cond (isIdle (w .activity)) (allIdle ws) false
 abbrev pub usedUp : ℕ → ℕ → Bool
 usedUp k left = cond (eqb k 1) (eqb left 0) false
 
+-- an insert phase, and a price that no label can have
+abbrev pub mispriced : ℕ → ℕ → Bool
+mispriced k cents = cond (eqb k 1) (not (priceOk cents)) false
+
 -- ---- parts
--- of an entry, the key v that is ordered: 7
-abbrev pub entryBars : ℕ → List Bar
-entryBars v = if (eqb v 0) Blank ∷ []
+-- of an entry, the key v that is ordered with its price, in a phase of kind k: 7, 14
+abbrev pub entryBars : (k v cents : ℕ) → List Bar
+entryBars k v cents = if (eqb v 0) Blank ∷ if (mispriced k cents) WrongPrice ∷ []
 
 -- of an order of v to a worker doing a, in a phase of kind k with so many insert operations left: 8, the entry's, 9
-abbrev pub workerBars : ℕ → ℕ → Activity → ℕ → List Bar
-workerBars k left a v = unless (isIdle a) Busy ∷ entryBars v ++ if (usedUp k left) Full ∷ []
+abbrev pub workerBars : (k left : ℕ) → Activity → (v cents : ℕ) → List Bar
+workerBars k left a v cents = unless (isIdle a) Busy ∷ entryBars k v cents ++ if (usedUp k left) Full ∷ []
 
 module _ (M : Model) (p : Phase) where
   -- of the phase state: 13, 11
@@ -44,9 +49,9 @@ module _ (M : Model) (p : Phase) where
   numberBars w = if (leb (p .crew) w) NoWorker ∷ []
 
   -- ---- the calls
-  -- order: 13, 11, 6, 8, 7, 9
-  abbrev pub orderBars : ℕ → ℕ → List Bar
-  orderBars w v = phaseBars ++ numberBars w ++ workerBars (p .kind) (p .left) (doing p w) v
+  -- order: 13, 11, 6, 8, 7, 14, 9
+  abbrev pub orderBars : (w v cents : ℕ) → List Bar
+  orderBars w v cents = phaseBars ++ numberBars w ++ workerBars (p .kind) (p .left) (doing p w) v cents
 
   -- turn: 13, 11, 5, 6
   abbrev pub turnBars : List ℕ → ℕ → List Bar

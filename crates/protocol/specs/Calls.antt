@@ -4,6 +4,7 @@ use mathlib.Core.List.{List}
 use Prim.Native.Nat.{ℕ, _-_}
 use lib.Dec.{eqb}
 use lib.ListN.{getD, set}
+use Rattle.prices.specs.Contents.{label, content}
 use Rattle.activities.specs.declared.Activity.{Activity}
 use Rattle.rule.specs.declared.Answer.the-variants as answer
 use Rattle.rule.specs.declared.Place.{Place}
@@ -20,7 +21,7 @@ use Rattle.protocol.specs.declared.TurnReply.{TurnReply}
 use Rattle.protocol.specs.declared.TurnReply.the-variants as turnReply
 use Rattle.protocol.specs.declared.Turned.{Turned}
 
--- document 01's number of a turn's answer, 0 where the turn is not refused
+-- the documents' number of a turn's answer, 0 where the turn is not refused
 abbrev pub turnNumber : TurnReply → ℕ
 turnNumber (turnReply.Answered a) = 0
 turnNumber (turnReply.Refused r) = numberOf r
@@ -42,6 +43,10 @@ withLeft p left = record { kind = p .kind; length = p .length; crew = p .crew; l
 abbrev pub shutPhase : Phase → Phase
 shutPhase p = record { kind = p .kind; length = p .length; crew = p .crew; left = p .left; shut = true; workers = p .workers }
 
+-- what an order of key v at a price is for, in a phase of kind k: an insert takes the price along, the others go by the key alone
+abbrev pub entryFor : (k v cents : ℕ) → ℕ
+entryFor k v cents = content v (cond (eqb k 1) cents 0)
+
 module _ (M : Model) (p : Phase) where
   -- ---- close
   abbrev pub closeReply : Reply
@@ -54,20 +59,22 @@ module _ (M : Model) (p : Phase) where
   abbrev pub closeCall : Replied
   closeCall = closed closeReply
 
-  -- ---- order of key v to worker w
-  abbrev pub orderReply : ℕ → ℕ → Reply
-  orderReply w v = firstOf (orderBars M p w v)
+  -- ---- order of key v, with its price, to worker w
+  module _ (w v cents : ℕ) where
+    abbrev pub orderReply : Reply
+    orderReply = firstOf (orderBars M p w v cents)
 
-  -- the worker starts at its key's home; an insert operation takes one of those left
-  abbrev pub orderedPhase : ℕ → ℕ → Phase
-  orderedPhase w v = withLeft (withWorker p w (start (M .home (p .length)) v)) (cond (eqb (p .kind) 1) (p .left - 1) (p .left))
+    -- the worker starts at its key's home; an insert operation takes one of those left
+    abbrev pub orderedPhase : Phase
+    orderedPhase =
+        withLeft (withWorker p w (start label (M .home (p .length)) (entryFor (p .kind) v cents))) (cond (eqb (p .kind) 1) (p .left - 1) (p .left))
 
-  abbrev pub ordered : ℕ → ℕ → Reply → Replied
-  ordered w v Accepted = record { phase = orderedPhase w v; reply = Accepted }
-  ordered w v (Refused r) = record { phase = p; reply = Refused r }
+    abbrev pub ordered : Reply → Replied
+    ordered Accepted = record { phase = orderedPhase; reply = Accepted }
+    ordered (Refused r) = record { phase = p; reply = Refused r }
 
-  abbrev pub orderCall : ℕ → ℕ → Replied
-  orderCall w v = ordered w v (orderReply w v)
+    abbrev pub orderCall : Replied
+    orderCall = ordered orderReply
 
   -- ---- turn of worker w on the table t
   module _ (t : List ℕ) (w : ℕ) where
@@ -78,12 +85,12 @@ module _ (M : Model) (p : Phase) where
     abbrev pub movedAt : Place → Turned
     movedAt Nowhere = record { phase = p; reply = turnReply.Answered answer.Idle }
     movedAt (At c) =
-        let o = rule (p .kind) (p .length) (M .home (p .length)) (doing p w) (getD t c 0) in
+        let o = rule (p .kind) (p .length) label (M .home (p .length)) (doing p w) (getD t c 0) in
         record { phase = withWorker p w (o .activity); reply = turnReply.Answered (o .answer) }
 
     abbrev pub cellsAt : Place → List ℕ
     cellsAt Nowhere = t
-    cellsAt (At c) = set t c (rule (p .kind) (p .length) (M .home (p .length)) (doing p w) (getD t c 0) .content)
+    cellsAt (At c) = set t c (rule (p .kind) (p .length) label (M .home (p .length)) (doing p w) (getD t c 0) .content)
 
     abbrev pub turned : Reply → Turned
     turned Accepted = movedAt (touched (doing p w))

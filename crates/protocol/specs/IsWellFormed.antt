@@ -3,6 +3,7 @@ use mathlib.Core.Bool.{Bool, true, false, cond}
 use mathlib.Core.List.{List, [], _∷_}
 use Prim.Native.Nat.{ℕ, suc}
 use lib.Dec.{ltb}
+use Rattle.prices.specs.Contents.{label}
 use Rattle.activities.specs.Activities.{isIdle, activityOk}
 use Rattle.activities.specs.Kinds.{kindOk}
 use Rattle.activities.specs.declared.Worker.{Worker}
@@ -16,7 +17,7 @@ numbersOk M k n m left = cond (kindOk k) (cond (sizeOk M n) (cond (crewOk M m) (
 -- of the workers from number i on, those below m have an activity that the kind has, and those past it are idle
 abbrev pub workersOk : (k n m i : ℕ) → List Worker → Bool
 workersOk k n m i [] = true
-workersOk k n m i (w ∷ ws) = cond (cond (ltb i m) (activityOk k n (w .activity)) (isIdle (w .activity))) (workersOk k n m (suc i) ws) false
+workersOk k n m i (w ∷ ws) = cond (cond (ltb i m) (activityOk k n label (w .activity)) (isIdle (w .activity))) (workersOk k n m (suc i) ws) false
 
 unfoldable pub isWellFormed : Model → Phase → Bool
 isWellFormed M p =

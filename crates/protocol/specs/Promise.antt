@@ -6,13 +6,16 @@ use mathlib.Core.Bool.{Bool, true, false}
 use mathlib.Core.List.{List, [], _∷_, _++_}
 use Prim.Native.Nat.{ℕ, suc, _≤_, _<_}
 use lib.ListN.{length, getD}
-use Rattle.layout.specs.Sound.{Sound, vacant}
-use Rattle.activities.specs.Activities.{keyOf}
+use Rattle.ring.specs.Ring.{next}
+use Rattle.layout.specs.Sound.{Holds, vacant, Ordered}
+use Rattle.prices.specs.Contents.{label, price, content, SoundTable}
+use Rattle.prices.specs.Priced.{labels}
+use Rattle.activities.specs.Activities.{entryOf}
 use Rattle.activities.specs.declared.Activity.{Activity}
 use Rattle.activities.specs.declared.Activity.the-variants.{Idle, Reading, Replacing, WalkingBack, SeekingForward, SeekingBack}
 use Rattle.rule.specs.Rule.{touched}
 use Rattle.rule.specs.declared.Answer.{Answer}
-use Rattle.rule.specs.declared.Answer.the-variants.{WentOn, Finished, Yes, No}
+use Rattle.rule.specs.declared.Answer.the-variants.{WentOn, Finished, Price, No}
 use Rattle.rule.specs.declared.Answer.the-variants as answer
 use Rattle.rule.specs.declared.Place.the-variants.{At}
 use Rattle.state.specs.Model.{Model, Proper, gateway}
@@ -32,7 +35,7 @@ WellFormedPromise = (M : Model) (p : Phase) → isWellFormed M p ≡ true ↔ We
 
 -- ---- no call spoils a phase state that is well formed, whether an opening and calls led to it or not
 pub record Keeps (M : Model) (p : Phase) : Type 0 where
-  pub order : (w v : ℕ) → WellFormed M (orderCall M p w v .phase)
+  pub order : (w v cents : ℕ) → WellFormed M (orderCall M p w v cents .phase)
   pub turn : (t : List ℕ) (w : ℕ) → WellFormed M (turnCall M p t w .phase)
   pub close : WellFormed M (closeCall M p .phase)
 
@@ -43,7 +46,7 @@ KeepsPromise = (M : Model) → Proper M → (p : Phase) → WellFormed M p → K
 -- made by an opening, accepted or refused, and later calls, each with any numbers and any table; the service call is the turn by its contract
 pub data Made (M : Model) : Phase → Type 0 where
   opened : (k m : ℕ) (t : List ℕ) → Made M (openCall M k m t .phase)
-  ordered : (p : Phase) → Made M p → (w v : ℕ) → Made M (orderCall M p w v .phase)
+  ordered : (p : Phase) → Made M p → (w v cents : ℕ) → Made M (orderCall M p w v cents .phase)
   turned : (p : Phase) → Made M p → (t : List ℕ) (w : ℕ) → Made M (turnCall M p t w .phase)
   closed : (p : Phase) → Made M p → Made M (closeCall M p .phase)
 
@@ -60,15 +63,25 @@ abbrev pub GatewayNeverSpoilt : Type 0
 GatewayNeverSpoilt = (p : Phase) → Made gateway p → WellFormed gateway p
 
 -- ---- open
-abbrev pub SoundTable : Model → List ℕ → Type 0
-SoundTable M t = Sound (length t) (M .home (length t)) t
+abbrev pub SoundIn : Model → List ℕ → Type 0
+SoundIn M t = SoundTable (length t) (M .home (length t)) t
+
+-- the same in the documents' words: at least one cell is empty, every key's path holds only greater keys, and a cell other than 0 has a key and a price
+-- from 1 to 9,999,999
+pub record Soundness (M : Model) (t : List ℕ) : Type 0 where
+  pub gap : Holds (length t) t 0
+  pub ordered : Ordered (length t) (M .home (length t)) (labels label t)
+  pub cells : (j : ℕ) → j < length t → getD t j 0 ≢ 0 → (label (getD t j 0) ≢ 0) × (1 ≤ price (getD t j 0)) × (price (getD t j 0) ≤ 9999999)
+
+abbrev pub SoundnessPromise : Type 0
+SoundnessPromise = (M : Model) (t : List ℕ) → SoundIn M t ↔ Soundness M t
 
 -- of a table: its length, and soundness
 abbrev pub sizeCases : Model → List ℕ → List Case
 sizeCases M t = wants 1 (Size M (length t)) ∷ []
 
 abbrev pub soundCases : Model → List ℕ → List Case
-soundCases M t = wants 4 (SoundTable M t) ∷ []
+soundCases M t = wants 4 (Soundness M t) ∷ []
 
 abbrev pub openCases : Model → ℕ → ℕ → List ℕ → List Case
 openCases M k m t = sizeCases M t ++ wants 2 (Crew M m) ∷ wants 3 (Kind k) ∷ soundCases M t
@@ -104,8 +117,9 @@ phaseCases M p = wants 13 (WellFormed M p) ∷ case 11 (p .shut ≡ false) (p .s
 abbrev pub numberCases : Phase → ℕ → List Case
 numberCases p w = case 6 (w < p .crew) (p .crew ≤ w) ∷ []
 
-abbrev pub entryCases : ℕ → List Case
-entryCases v = forbids 7 (v ≡ 0) ∷ []
+-- of an entry: key 0; in an insert phase (put-in shift) a price of 0 or above 9,999,999
+abbrev pub entryCases : (k v cents : ℕ) → List Case
+entryCases k v cents = forbids 7 (v ≡ 0) ∷ case 14 (k ≡ 1 → (1 ≤ cents) × (cents ≤ 9999999)) ((k ≡ 1) × ((cents ≡ 0) ⊎ (9999999 < cents))) ∷ []
 
 -- ---- what calls leave
 -- two phase states of one kind, length and worker count, with as many places for workers
@@ -126,26 +140,30 @@ pub record ButFor (w : ℕ) (p q : Phase) : Type 0 where
 abbrev pub UsedUp : Phase → Type 0
 UsedUp p = (p .kind ≡ 1) × (p .left ≡ 0)
 
-abbrev pub orderCases : Model → Phase → ℕ → ℕ → List Case
-orderCases M p w v = phaseCases M p ++ numberCases p w ++ wants 8 (doing p w ≡ Idle) ∷ entryCases v ++ forbids 9 (UsedUp p) ∷ []
+abbrev pub orderCases : Model → Phase → (w v cents : ℕ) → List Case
+orderCases M p w v cents =
+    phaseCases M p ++ numberCases p w ++ wants 8 (doing p w ≡ Idle) ∷ entryCases (p .kind) v cents ++ forbids 9 (UsedUp p) ∷ []
 
--- q is p after an accepted order of key v to worker w
-pub record Starts (M : Model) (p : Phase) (w v : ℕ) (q : Phase) : Type 0 where
+-- q is p after an accepted order of key v, with its price, to worker w
+pub record Starts (M : Model) (p : Phase) (w v cents : ℕ) (q : Phase) : Type 0 where
   pub others : ButFor w p q
-  -- the worker starts at its key's home. A list of workers has no fixed length; the code's array, and every list that calls make (`PlacesPromise`),
-  -- has a place for each worker
-  pub starts : w < length (p .workers) → doing q w ≡ Reading v (M .home (p .length) v)
+  -- the worker starts at its key's home, in an insert phase with the price ordered, else without any. A list of workers has no fixed length; the code's
+  -- array, and every list that calls make (`PlacesPromise`), has a place for each worker
+  pub starts-priced : p .kind ≡ 1 → w < length (p .workers) → doing q w ≡ Reading (content v cents) (M .home (p .length) v)
+  pub starts : p .kind ≢ 1 → w < length (p .workers) → doing q w ≡ Reading (content v 0) (M .home (p .length) v)
   -- an insert operation takes one of those left, any other none
   pub takes-one : p .kind ≡ 1 → suc (q .left) ≡ p .left
   pub takes-none : p .kind ≢ 1 → q .left ≡ p .left
 
-pub record Orders (M : Model) (p : Phase) (w v : ℕ) : Type 0 where
-  pub answers : Decides (replyNumber (orderCall M p w v .reply)) (orderCases M p w v)
-  pub refused : replyNumber (orderCall M p w v .reply) ≢ 0 → orderCall M p w v .phase ≡ p
-  pub accepted : replyNumber (orderCall M p w v .reply) ≡ 0 → Starts M p w v (orderCall M p w v .phase)
+pub record Orders (M : Model) (p : Phase) (w v cents : ℕ) : Type 0 where
+  pub answers : Decides (replyNumber (orderCall M p w v cents .reply)) (orderCases M p w v cents)
+  pub refused : replyNumber (orderCall M p w v cents .reply) ≢ 0 → orderCall M p w v cents .phase ≡ p
+  pub accepted : replyNumber (orderCall M p w v cents .reply) ≡ 0 → Starts M p w v cents (orderCall M p w v cents .phase)
+  -- outside insert phases the price is not read
+  pub unread : p .kind ≢ 1 → (other : ℕ) → orderCall M p w v other ≡ orderCall M p w v cents
 
 abbrev pub OrderPromise : Type 0
-OrderPromise = (M : Model) (p : Phase) (w v : ℕ) → Orders M p w v
+OrderPromise = (M : Model) (p : Phase) (w v cents : ℕ) → Orders M p w v cents
 
 -- ---- turn
 abbrev pub turnCases : Model → Phase → List ℕ → ℕ → List Case
@@ -155,20 +173,21 @@ turnCases M p t w = phaseCases M p ++ wants 5 (p .length ≡ length t) ∷ numbe
 pub record Answers (k : ℕ) (a b : Activity) (r : Answer) : Type 0 where
   -- idle exactly for a worker that is idle
   pub idle : r ≡ answer.Idle ↔ (a ≡ Idle)
-  -- of a worker with an unfinished operation: went on exactly if it stays unfinished, else finished, with yes or no in a find phase
+  -- of a worker with an unfinished operation: went on exactly if it stays unfinished, else finished, with a price or no in a find phase
   pub on : r ≡ WentOn ↔ ((a ≢ Idle) × (b ≢ Idle))
   pub finished : r ≡ Finished ↔ ((k ≢ 3) × (a ≢ Idle) × (b ≡ Idle))
-  pub told : ((r ≡ Yes) ⊎ (r ≡ No)) ↔ ((k ≡ 3) × (a ≢ Idle) × (b ≡ Idle))
+  pub told : (((q : ℕ) × (r ≡ Price q)) ⊎ (r ≡ No)) ↔ ((k ≡ 3) × (a ≢ Idle) × (b ≡ Idle))
 
--- in a phase of kind k a worker doing a replaces the content of cell c: an insert writes its key over the content that it read there before, a delete
--- writes the replacement that it took over its key
+-- in a phase of kind k a worker doing a replaces the content of cell c: an insert writes its entry over the content that it read there before, a delete
+-- writes the replacement that it took over the entry that it read there, 0 if the replacement has no key
 abbrev pub Replaces : ℕ → Activity → ℕ → (before after : ℕ) → Type 0
 Replaces k Idle c before after = ⊥
 Replaces k (Reading v i) c before after = ⊥
-Replaces k (Replacing v i j x) c before after = (i ≡ c) × (((k ≡ 1) × (before ≡ x) × (after ≡ v)) ⊎ ((k ≡ 2) × (before ≡ v) × (after ≡ x)))
+Replaces k (Replacing v i j x) c before after =
+    (i ≡ c) × (((k ≡ 1) × (before ≡ x) × (after ≡ v)) ⊎ ((k ≡ 2) × (before ≡ v) × (((label x ≢ 0) × (after ≡ x)) ⊎ ((label x ≡ 0) × (after ≡ 0)))))
 Replaces k (WalkingBack v i) c before after = ⊥
 Replaces k (SeekingForward v i j) c before after = ⊥
-Replaces k (SeekingBack v i j x b) c before after = ⊥
+Replaces k (SeekingBack b v i j x) c before after = ⊥
 
 pub record Turns (M : Model) (p : Phase) (t : List ℕ) (w : ℕ) : Type 0 where
   pub answers : Decides (turnNumber (turnCall M p t w .reply)) (turnCases M p t w)
@@ -178,16 +197,29 @@ pub record Turns (M : Model) (p : Phase) (t : List ℕ) (w : ℕ) : Type 0 where
   pub idle-answer : doing p w ≡ Idle → turnNumber (turnCall M p t w .reply) ≡ 0 → turnCall M p t w .reply ≡ Answered answer.Idle
   -- a turn answers as its worker's record before and after it says
   pub answered : (r : Answer) → turnCall M p t w .reply ≡ Answered r → Answers (p .kind) (doing p w) (doing (turnCall M p t w .phase) w) r
-  -- yes if the cell holds the worker's key, else no
-  pub says-yes : turnCall M p t w .reply ≡ Answered Yes → (c : ℕ) → touched (doing p w) ≡ At c → getD t c 0 ≡ keyOf (doing p w)
-  pub says-no : turnCall M p t w .reply ≡ Answered No → (c : ℕ) → touched (doing p w) ≡ At c → getD t c 0 ≢ keyOf (doing p w)
+  -- the cell's price if the cell holds the worker's key, else no
+  pub says-price : (q : ℕ) → turnCall M p t w .reply ≡ Answered (Price q) → (c : ℕ) → touched (doing p w) ≡ At c
+      → (label (getD t c 0) ≡ label (entryOf (doing p w))) × (price (getD t c 0) ≡ q)
+  pub says-no : turnCall M p t w .reply ≡ Answered No → (c : ℕ) → touched (doing p w) ≡ At c → label (getD t c 0) ≢ label (entryOf (doing p w))
   -- a turn reads one cell, or compares one cell with a content read earlier and writes if they are equal: no other turn changes a cell
   pub writes : (c : ℕ) → getD (turnTable M p t w) c 0 ≢ getD t c 0 → Replaces (p .kind) (doing p w) c (getD t c 0) (getD (turnTable M p t w) c 0)
   -- and a replace turn that finds that content writes
   pub inserts : turnNumber (turnCall M p t w .reply) ≡ 0 → p .kind ≡ 1 → (v i j x : ℕ) → doing p w ≡ Replacing v i j x → getD t i 0 ≡ x
       → getD (turnTable M p t w) i 0 ≡ v
   pub deletes : turnNumber (turnCall M p t w .reply) ≡ 0 → p .kind ≡ 2 → (v i j x : ℕ) → doing p w ≡ Replacing v i j x → getD t i 0 ≡ v
-      → getD (turnTable M p t w) i 0 ≡ x
+      → label x ≢ 0 → getD (turnTable M p t w) i 0 ≡ x
+  pub empties : turnNumber (turnCall M p t w .reply) ≡ 0 → p .kind ≡ 2 → (v i j x : ℕ) → doing p w ≡ Replacing v i j x → getD t i 0 ≡ v
+      → label x ≡ 0 → getD (turnTable M p t w) i 0 ≡ 0
+  -- an insert that reads its own key: what stands at no higher price finishes it, an entry at a higher price is to be replaced
+  pub stands : turnNumber (turnCall M p t w .reply) ≡ 0 → p .kind ≡ 1 → (v i : ℕ) → doing p w ≡ Reading v i → label (getD t i 0) ≡ label v
+      → price (getD t i 0) ≤ price v → turnCall M p t w .reply ≡ Answered Finished
+  pub undercuts : turnNumber (turnCall M p t w .reply) ≡ 0 → p .kind ≡ 1 → (v i : ℕ) → doing p w ≡ Reading v i → label (getD t i 0) ≡ label v
+      → price v < price (getD t i 0) → doing (turnCall M p t w .phase) w ≡ Replacing v i i (getD t i 0)
+  -- and once it has replaced that, or a content without a key, it is finished; any other key it carries on from the next cell
+  pub ends : turnNumber (turnCall M p t w .reply) ≡ 0 → p .kind ≡ 1 → (v i j x : ℕ) → doing p w ≡ Replacing v i j x → getD t i 0 ≡ x
+      → ((label x ≡ label v) × (price v < price x)) ⊎ (label x ≡ 0) → turnCall M p t w .reply ≡ Answered Finished
+  pub carries : turnNumber (turnCall M p t w .reply) ≡ 0 → p .kind ≡ 1 → (v i j x : ℕ) → doing p w ≡ Replacing v i j x → getD t i 0 ≡ x
+      → label x ≢ 0 → (label x ≡ label v → price x ≤ price v) → doing (turnCall M p t w .phase) w ≡ Reading x (next (p .length) i)
   -- refused or not, a turn leaves all of the phase state but its own worker
   pub others : ButFor w p (turnCall M p t w .phase)
   pub left : turnCall M p t w .phase .left ≡ p .left

@@ -1,6 +1,7 @@
 -- Document 01's sentence on ill-formed (spoilt) phase states, as a proposition; the calls go by the test `isWellFormed`.
 use mathlib.Core.Path.{_≡_}
 use Prim.Native.Nat.{ℕ, _≤_, _<_}
+use Rattle.prices.specs.Contents.{label}
 use Rattle.activities.specs.Activities.{Suits}
 use Rattle.activities.specs.declared.Activity.the-variants.{Idle}
 use Rattle.state.specs.Model.{Model}
@@ -25,4 +26,4 @@ pub record WellFormed (M : Model) (p : Phase) : Type 0 where
   pub left : p .left < p .length
   -- a worker past the count is idle
   pub past : (w : ℕ) → p .crew ≤ w → doing p w ≡ Idle
-  pub workers : (w : ℕ) → w < p .crew → Suits (p .kind) (p .length) (doing p w)
+  pub workers : (w : ℕ) → w < p .crew → Suits (p .kind) (p .length) label (doing p w)

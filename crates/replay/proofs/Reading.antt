@@ -49,5 +49,5 @@ pub record Reading (cells block out line : List ℕ) (c : Carried) (left : ℕ) 
   pub few : c .number + left ≤ 18446744073709551615
   pub cells-long : length cells ≡ mostSheetCells
   pub block-long : length block ≡ 65536
-  pub out-long : length out ≡ 131072
+  pub out-long : length out ≡ 196608
   pub line-long : length line ≡ keptBytes

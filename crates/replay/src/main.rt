@@ -12,7 +12,7 @@ ghost use Rattle.replay.specs.Read.{Passes, Brings};
 const BLOCK: usize = 65536;
 
 // The room for what is printed at a time: the longest answer and more, so that the answers to many lines are written at once.
-const OUTPUT: usize = 131072;
+const OUTPUT: usize = 196608;
 
 // A block is done; `written` if all that it prints could be written.
 struct Passed {
@@ -43,7 +43,7 @@ fn block_done(
     carried: Carried,
     block: &[u8],
     line: &mut [u8],
-    cells: &mut [u32],
+    cells: &mut [u64],
     out: &mut [u8],
 ) -> Passed
     requires { ⌜ Fit carried (now line) (now cells) (length (now block)) × (longestAnswer ≤ length (now out)) ⌝ }
@@ -82,7 +82,7 @@ fn read_done(
     got: isize,
     block: &[u8],
     line: &mut [u8],
-    cells: &mut [u32],
+    cells: &mut [u64],
     out: &mut [u8],
 ) -> Brought
     requires { ⌜ Fit carried (now line) (now cells) (length (now block)) × (longestAnswer ≤ length (now out)) ⌝ }
@@ -107,7 +107,7 @@ fn read_done(
 }
 
 fn main() {
-    let mut cells = [0u32; Replay::MOST_CELLS];
+    let mut cells = [0u64; Replay::MOST_CELLS];
     let mut block = [0u8; BLOCK];
     let mut out = [0u8; OUTPUT];
     let mut line = [0u8; Line::KEPT];

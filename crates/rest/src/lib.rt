@@ -9,7 +9,7 @@ ghost use Rattle.state.specs.Model.{gateway};
 ghost use Rattle.tables.specs.Calls.{checkCall, countCall, listCall, listAfter, listFront};
 
 // Whether the table is sound.
-pub fn check(cells: &[u32]) -> Reply
+pub fn check(cells: &[u64]) -> Reply
     ensures { λ r. ⌜ r ≡ checkCall gateway (now (cells .entry)) ⌝ }
 {
     if !Phase::size_ok(cells.len()) {
@@ -23,7 +23,7 @@ pub fn check(cells: &[u32]) -> Reply
 }
 
 // How many keys the table has.
-pub fn count(cells: &[u32]) -> Counted
+pub fn count(cells: &[u64]) -> Counted
     ensures { λ r. ⌜ r ≡ countCall gateway (now (cells .entry)) ⌝ }
 {
     let checked = check(cells);
@@ -33,8 +33,8 @@ pub fn count(cells: &[u32]) -> Counted
     }
 }
 
-// Lists the keys in cell order at the front of `out`.
-pub fn list(cells: &[u32], out: &mut [u32]) -> Counted
+// Lists the entries, each key with its price, in cell order at the front of `out`.
+pub fn list(cells: &[u64], out: &mut [u64]) -> Counted
     ensures { λ r. ⌜ (r ≡ listCall gateway (now (cells .entry)) (now (out .entry))) × (now (out .exit) ≡ listAfter gateway (now (cells .entry)) (now (out .entry))) ⌝ }
 {
     let checked = check(cells);
@@ -42,7 +42,7 @@ pub fn list(cells: &[u32], out: &mut [u32]) -> Counted
         Reply::Refused(why) => Counted::Refused(why),
         Reply::Accepted => {
             let room = out.len();
-            let count = listing::list_keys(cells, out);
+            let count = listing::list_entries(cells, out);
             if room < count {
                 Counted::Refused(Refusal::ShortList)
             } else {
@@ -53,7 +53,7 @@ pub fn list(cells: &[u32], out: &mut [u32]) -> Counted
 }
 
 // The same, handing back the filled front part of `out`: it begins where `out` does.
-pub fn list_front<'a>(cells: &[u32], out: &'a mut [u32]) -> &'a mut [u32]
+pub fn list_front<'a>(cells: &[u64], out: &'a mut [u64]) -> &'a mut [u64]
     ensures { λ r. ⌜ (now r ≡ listFront gateway (now (cells .entry)) (now (out .entry))) × (ptr r ≡ ptr (out .entry)) ⌝ }
 {
     let listed = list(cells, out);

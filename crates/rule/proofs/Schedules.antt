@@ -1,20 +1,21 @@
 -- Every schedule closes as written. Each is computed as a test, and a law turns the passed test into what the schedule says.
 use mathlib.Core.Path.{_≡_, refl, ap₂}
-use mathlib.Core.Bool.{Bool, true, false, _&&_}
+use mathlib.Core.Bool.{Bool, true, _&&_}
 use mathlib.Core.List.{List, [], _∷_, map}
 use Prim.Native.Nat.{ℕ, zero, suc}
-use lib.Dec.{T, eqb, eqb→eq}
+use lib.Dec.{T, ltb, eqb, eqb→eq}
 use lib.ListN.{getD}
-use Rattle.ring.specs.Counting.{count}
+use Rattle.ring.specs.Counting.{bit}
 use Rattle.ring.specs.Ring.{wrap, dist, prev}
 use Rattle.layout.proofs.Tests.{and-left, and-right}
+use Rattle.activities.specs.Activities.{busy}
 use Rattle.activities.specs.declared.Activity.{Activity}
 use Rattle.activities.specs.declared.Activity.the-variants.{Idle}
-use Rattle.rule.specs.Events.{Said, Run, stepped, ordered, accepts, event, run}
-use Rattle.activities.specs.Activities.{busy}
-use Rattle.rule.specs.Rule.{insertStep, findStep, fits, narrow, deleteStep, rule}
-use Rattle.rule.specs.Schedules.{Schedule, Closes, round, rounds, steps, sameTable, sameBit, sameAnswers, noneBusy, ends, closesAs, closesRight, schedules, AllClose, SchedulesPromise}
 use Rattle.activities.proofs.Activities.{rests}
+use Rattle.rule.specs.Events.{Said, Run, stepped, ordered, accepts, event, run}
+use Rattle.rule.specs.Rule.{settled, absorbed, insertStep, findStep, fits, narrow, deleteStep, rule}
+use Rattle.rule.specs.Schedules.{Schedule, Closes, round, rounds, steps, sameTable, noneBusy, ends, closesAs, closesRight}
+use Rattle.rule.specs.Schedules.{schedules, AllClose, SchedulesPromise}
 
 -- ---- what a passed test says
 pub same-table : (xs ys : List ℕ) → T (sameTable xs ys) → xs ≡ ys
@@ -24,21 +25,6 @@ same-table [] (y ∷ ys) p = absurd p
 same-table (x ∷ xs) [] p = absurd p
 same-table (x ∷ xs) (y ∷ ys) p =
     ap₂ (λ (a : ℕ) (l : List ℕ). a ∷ l) (eqb→eq x y (and-left (eqb x y) (sameTable xs ys) p)) (same-table xs ys (and-right (eqb x y) (sameTable xs ys) p))
-
-pub same-bit : (a b : Bool) → T (sameBit a b) → a ≡ b
-unfolding sameBit
-same-bit true true p = refl
-same-bit true false p = absurd p
-same-bit false true p = absurd p
-same-bit false false p = refl
-
-same-answers : (xs ys : List Bool) → T (sameAnswers xs ys) → xs ≡ ys
-unfolding sameAnswers
-same-answers [] [] p = refl
-same-answers [] (y ∷ ys) p = absurd p
-same-answers (x ∷ xs) [] p = absurd p
-same-answers (x ∷ xs) (y ∷ ys) p =
-    ap₂ (λ (a : Bool) (l : List Bool). a ∷ l) (same-bit x y (and-left (sameBit x y) (sameAnswers xs ys) p)) (same-answers xs ys (and-right (sameBit x y) (sameAnswers xs ys) p))
 
 pub all-idle : (ws : List Activity) → T (noneBusy ws) → (w : ℕ) → getD ws w Idle ≡ Idle
 unfolding noneBusy
@@ -50,14 +36,18 @@ pub closes : (s : Schedule) → T (closesRight s) → Closes s
 unfolding closesRight closesAs
 closes s p =
     let r : Run = ends s in
-    let said : List Bool = map (λ (a : Said). a .found) (r .said) in
+    let said : List ℕ = map (λ (a : Said). a .price) (r .said) in
     let q = and-right (noneBusy (r .workers)) _ p in
     let m = and-right (sameTable (r .table) (s .closed)) _ q in
+    let bits : List ℕ = map (λ (a : Said). bit (a .found)) (r .said) in
+    let some : List ℕ = map (λ p. bit (ltb 0 p)) (s .answers) in
+    let f = and-right (sameTable said (s .answers)) _ m in
     record {
       rest = all-idle (r .workers) (and-left (noneBusy (r .workers)) _ p);
       table = same-table (r .table) (s .closed) (and-left (sameTable (r .table) (s .closed)) _ q);
-      answers = same-answers said (s .answers) (and-left (sameAnswers said (s .answers)) (eqb (r .counted) (s .counted)) m);
-      counted = eqb→eq (r .counted) (s .counted) (and-right (sameAnswers said (s .answers)) (eqb (r .counted) (s .counted)) m);
+      answers = same-table said (s .answers) (and-left (sameTable said (s .answers)) _ m);
+      found = same-table bits some (and-left (sameTable bits some) (eqb (r .counted) (s .counted)) f);
+      counted = eqb→eq (r .counted) (s .counted) (and-right (sameTable bits some) (eqb (r .counted) (s .counted)) f);
     }
 
 -- ---- the test, computed
@@ -71,8 +61,8 @@ all-say [] p = tt
 all-say (s ∷ others) p = (closes s (and-left (closesRight s) (allClose others) p), all-say others (and-right (closesRight s) (allClose others) p))
 
 computed : T (allClose schedules)
-unfolding allClose schedules closesRight closesAs ends noneBusy sameTable sameBit sameAnswers round rounds steps
-    run event accepts ordered stepped rule insertStep findStep deleteStep fits narrow dist prev wrap count
+unfolding allClose schedules closesRight closesAs ends noneBusy sameTable round rounds steps
+    run event accepts ordered stepped rule settled absorbed insertStep findStep deleteStep fits narrow dist prev wrap
 computed = tt
 
 pub all-close : SchedulesPromise

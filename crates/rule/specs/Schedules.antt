@@ -4,11 +4,13 @@ use mathlib.Core.Path.{_≡_}
 use mathlib.Core.Bool.{Bool, true, false, _&&_}
 use mathlib.Core.List.{List, [], _∷_, _++_, map}
 use Prim.Native.Nat.{ℕ, zero, suc}
-use lib.Dec.{eqb}
+use lib.Dec.{ltb, eqb}
+use Rattle.ring.specs.Counting.{bit}
 use Rattle.layout.specs.Home.{modulo}
+use Rattle.prices.specs.Contents.{label, content}
+use Rattle.activities.specs.Activities.{busy}
 use Rattle.activities.specs.declared.Activity.{Activity}
 use Rattle.rule.specs.Events.{Said, Run, Event, order, step, AllIdle, after}
-use Rattle.activities.specs.Activities.{busy}
 
 pub record Schedule : Type 0 where
   pub kind : ℕ
@@ -18,9 +20,9 @@ pub record Schedule : Type 0 where
   pub events : List Event
   -- then so many rounds, in each of which every worker steps once
   pub rounds : ℕ
-  -- the table in the end, and the finds' answers, the last one first
+  -- the table in the end, and the prices that the finds answered, 0 for no, the last one first
   pub closed : List ℕ
-  pub answers : List Bool
+  pub answers : List ℕ
   -- the steps of workers with unfinished operations: a step more or fewer is noticed, also where the outcome is right
   pub counted : ℕ
 
@@ -39,13 +41,14 @@ steps zero w es = es
 steps (suc r) w es = step w ∷ steps r w es
 
 unfoldable pub ends : Schedule → Run
-ends s = after (s .kind) (s .cells) (s .crew) (modulo (s .cells)) (s .table) (s .events ++ rounds (s .crew) (s .rounds))
+ends s = after (s .kind) (s .cells) (s .crew) label (modulo (s .cells)) (s .table) (s .events ++ rounds (s .crew) (s .rounds))
 
 -- what a schedule says: all workers are idle in the end, and table, answers and the number of steps are as written
 pub record Closes (s : Schedule) : Type 0 where
   pub rest : AllIdle (ends s)
   pub table : ends s .table ≡ s .closed
-  pub answers : map (λ (a : Said). a .found) (ends s .said) ≡ s .answers
+  pub answers : map (λ (a : Said). a .price) (ends s .said) ≡ s .answers
+  pub found : map (λ (a : Said). bit (a .found)) (ends s .said) ≡ map (λ p. bit (ltb 0 p)) (s .answers)
   pub counted : ends s .counted ≡ s .counted
 
 -- ---- the same as a test that computes
@@ -55,26 +58,27 @@ sameTable [] (y ∷ ys) = false
 sameTable (x ∷ xs) [] = false
 sameTable (x ∷ xs) (y ∷ ys) = eqb x y && sameTable xs ys
 
-unfoldable pub sameBit : Bool → Bool → Bool
-sameBit true b = b
-sameBit false true = false
-sameBit false false = true
-
-unfoldable pub sameAnswers : List Bool → List Bool → Bool
-sameAnswers [] [] = true
-sameAnswers [] (y ∷ ys) = false
-sameAnswers (x ∷ xs) [] = false
-sameAnswers (x ∷ xs) (y ∷ ys) = sameBit x y && sameAnswers xs ys
-
 unfoldable pub noneBusy : List Activity → Bool
 noneBusy [] = true
 noneBusy (a ∷ others) = eqb (busy a) 0 && noneBusy others
 
-unfoldable pub closesAs : List ℕ → List Bool → ℕ → Run → Bool
-closesAs t bs i r = noneBusy (r .workers) && (sameTable (r .table) t && (sameAnswers (map (λ (a : Said). a .found) (r .said)) bs && eqb (r .counted) i))
+unfoldable pub closesAs : List ℕ → List ℕ → ℕ → Run → Bool
+closesAs t ps i r =
+    noneBusy (r .workers)
+    && (sameTable (r .table) t
+    && (sameTable (map (λ (a : Said). a .price) (r .said)) ps
+    && (sameTable (map (λ (a : Said). bit (a .found)) (r .said)) (map (λ p. bit (ltb 0 p)) ps) && eqb (r .counted) i)))
 
 unfoldable pub closesRight : Schedule → Bool
 closesRight s = closesAs (s .closed) (s .answers) (s .counted) (ends s)
+
+-- a label at price 1, and 0 for 0
+abbrev pub one : ℕ → ℕ
+one zero = 0
+one (suc l) = content (suc l) 1
+
+abbrev pub ones : List ℕ → List ℕ
+ones ls = map one ls
 
 -- ---- the schedules: document 01's examples, and the smallest that were found to tell wrong rules apart
 unfoldable pub schedules : List Schedule
@@ -84,10 +88,10 @@ schedules =
       kind = 1;
       cells = 4;
       crew = 3;
-      table = 0 ∷ 0 ∷ 0 ∷ 0 ∷ [];
-      events = order 0 1 ∷ order 1 1 ∷ order 2 5 ∷ [];
+      table = ones (0 ∷ 0 ∷ 0 ∷ 0 ∷ []);
+      events = order 0 (one 1) ∷ order 1 (one 1) ∷ order 2 (one 5) ∷ [];
       rounds = 10;
-      closed = 0 ∷ 5 ∷ 1 ∷ 0 ∷ [];
+      closed = ones (0 ∷ 5 ∷ 1 ∷ 0 ∷ []);
       answers = [];
       counted = 11;
     }
@@ -96,10 +100,10 @@ schedules =
       kind = 1;
       cells = 5;
       crew = 2;
-      table = 0 ∷ 0 ∷ 0 ∷ 0 ∷ 0 ∷ [];
-      events = order 0 8 ∷ order 1 8 ∷ [];
+      table = ones (0 ∷ 0 ∷ 0 ∷ 0 ∷ 0 ∷ []);
+      events = order 0 (one 8) ∷ order 1 (one 8) ∷ [];
       rounds = 6;
-      closed = 0 ∷ 0 ∷ 0 ∷ 8 ∷ 0 ∷ [];
+      closed = ones (0 ∷ 0 ∷ 0 ∷ 8 ∷ 0 ∷ []);
       answers = [];
       counted = 5;
     }
@@ -108,10 +112,10 @@ schedules =
       kind = 1;
       cells = 5;
       crew = 2;
-      table = 0 ∷ 0 ∷ 0 ∷ 0 ∷ 0 ∷ [];
-      events = order 0 3 ∷ order 1 8 ∷ step 0 ∷ step 1 ∷ step 0 ∷ step 1 ∷ step 0 ∷ step 1 ∷ step 0 ∷ step 1 ∷ step 0 ∷ step 1 ∷ step 0 ∷ step 1 ∷ step 0 ∷ step 1 ∷ order 0 13 ∷ order 1 4 ∷ [];
+      table = ones (0 ∷ 0 ∷ 0 ∷ 0 ∷ 0 ∷ []);
+      events = order 0 (one 3) ∷ order 1 (one 8) ∷ step 0 ∷ step 1 ∷ step 0 ∷ step 1 ∷ step 0 ∷ step 1 ∷ step 0 ∷ step 1 ∷ step 0 ∷ step 1 ∷ step 0 ∷ step 1 ∷ step 0 ∷ step 1 ∷ order 0 (one 13) ∷ order 1 (one 4) ∷ [];
       rounds = 13;
-      closed = 4 ∷ 3 ∷ 0 ∷ 13 ∷ 8 ∷ [];
+      closed = ones (4 ∷ 3 ∷ 0 ∷ 13 ∷ 8 ∷ []);
       answers = [];
       counted = 20;
     }
@@ -120,10 +124,10 @@ schedules =
       kind = 2;
       cells = 5;
       crew = 2;
-      table = 4 ∷ 3 ∷ 0 ∷ 13 ∷ 8 ∷ [];
-      events = order 0 13 ∷ order 1 13 ∷ [];
+      table = ones (4 ∷ 3 ∷ 0 ∷ 13 ∷ 8 ∷ []);
+      events = order 0 (one 13) ∷ order 1 (one 13) ∷ [];
       rounds = 18;
-      closed = 3 ∷ 0 ∷ 0 ∷ 8 ∷ 4 ∷ [];
+      closed = ones (3 ∷ 0 ∷ 0 ∷ 8 ∷ 4 ∷ []);
       answers = [];
       counted = 18;
     }
@@ -132,10 +136,10 @@ schedules =
       kind = 2;
       cells = 5;
       crew = 2;
-      table = 4 ∷ 3 ∷ 0 ∷ 13 ∷ 8 ∷ [];
-      events = order 0 13 ∷ order 1 8 ∷ [];
+      table = ones (4 ∷ 3 ∷ 0 ∷ 13 ∷ 8 ∷ []);
+      events = order 0 (one 13) ∷ order 1 (one 8) ∷ [];
       rounds = 24;
-      closed = 0 ∷ 0 ∷ 0 ∷ 3 ∷ 4 ∷ [];
+      closed = ones (0 ∷ 0 ∷ 0 ∷ 3 ∷ 4 ∷ []);
       answers = [];
       counted = 27;
     }
@@ -144,10 +148,10 @@ schedules =
       kind = 2;
       cells = 5;
       crew = 2;
-      table = 5 ∷ 4 ∷ 1 ∷ 0 ∷ 9 ∷ [];
-      events = order 0 5 ∷ steps 3 0 (order 1 9 ∷ steps 3 1 (steps 3 0 []));
+      table = ones (5 ∷ 4 ∷ 1 ∷ 0 ∷ 9 ∷ []);
+      events = order 0 (one 5) ∷ steps 3 0 (order 1 (one 9) ∷ steps 3 1 (steps 3 0 []));
       rounds = 15;
-      closed = 0 ∷ 1 ∷ 0 ∷ 0 ∷ 4 ∷ [];
+      closed = ones (0 ∷ 1 ∷ 0 ∷ 0 ∷ 4 ∷ []);
       answers = [];
       counted = 25;
     }
@@ -156,10 +160,10 @@ schedules =
       kind = 2;
       cells = 4;
       crew = 1;
-      table = 4 ∷ 5 ∷ 1 ∷ 0 ∷ [];
-      events = order 0 4 ∷ [];
+      table = ones (4 ∷ 5 ∷ 1 ∷ 0 ∷ []);
+      events = order 0 (one 4) ∷ [];
       rounds = 11;
-      closed = 0 ∷ 5 ∷ 1 ∷ 0 ∷ [];
+      closed = ones (0 ∷ 5 ∷ 1 ∷ 0 ∷ []);
       answers = [];
       counted = 8;
     }
@@ -168,10 +172,10 @@ schedules =
       kind = 2;
       cells = 4;
       crew = 2;
-      table = 0 ∷ 5 ∷ 2 ∷ 1 ∷ [];
-      events = order 0 2 ∷ steps 3 0 (order 1 5 ∷ steps 3 1 (steps 3 0 []));
+      table = ones (0 ∷ 5 ∷ 2 ∷ 1 ∷ []);
+      events = order 0 (one 2) ∷ steps 3 0 (order 1 (one 5) ∷ steps 3 1 (steps 3 0 []));
       rounds = 10;
-      closed = 0 ∷ 1 ∷ 0 ∷ 0 ∷ [];
+      closed = ones (0 ∷ 1 ∷ 0 ∷ 0 ∷ []);
       answers = [];
       counted = 16;
     }
@@ -180,10 +184,10 @@ schedules =
       kind = 2;
       cells = 3;
       crew = 2;
-      table = 0 ∷ 4 ∷ 1 ∷ [];
-      events = order 0 1 ∷ order 1 4 ∷ steps 4 1 (steps 4 0 []);
+      table = ones (0 ∷ 4 ∷ 1 ∷ []);
+      events = order 0 (one 1) ∷ order 1 (one 4) ∷ steps 4 1 (steps 4 0 []);
       rounds = 10;
-      closed = 0 ∷ 0 ∷ 0 ∷ [];
+      closed = ones (0 ∷ 0 ∷ 0 ∷ []);
       answers = [];
       counted = 18;
     }
@@ -192,10 +196,10 @@ schedules =
       kind = 2;
       cells = 3;
       crew = 2;
-      table = 6 ∷ 3 ∷ 0 ∷ [];
-      events = order 0 3 ∷ order 1 6 ∷ steps 4 1 (step 0 ∷ []);
+      table = ones (6 ∷ 3 ∷ 0 ∷ []);
+      events = order 0 (one 3) ∷ order 1 (one 6) ∷ steps 4 1 (step 0 ∷ []);
       rounds = 10;
-      closed = 0 ∷ 0 ∷ 0 ∷ [];
+      closed = ones (0 ∷ 0 ∷ 0 ∷ []);
       answers = [];
       counted = 15;
     }
@@ -204,10 +208,10 @@ schedules =
       kind = 2;
       cells = 4;
       crew = 2;
-      table = 8 ∷ 9 ∷ 4 ∷ 0 ∷ [];
-      events = order 0 4 ∷ steps 5 0 (order 1 9 ∷ steps 3 1 (step 0 ∷ order 0 8 ∷ steps 6 0 (step 1 ∷ [])));
+      table = ones (8 ∷ 9 ∷ 4 ∷ 0 ∷ []);
+      events = order 0 (one 4) ∷ steps 5 0 (order 1 (one 9) ∷ steps 3 1 (step 0 ∷ order 0 (one 8) ∷ steps 6 0 (step 1 ∷ [])));
       rounds = 13;
-      closed = 0 ∷ 0 ∷ 0 ∷ 0 ∷ [];
+      closed = ones (0 ∷ 0 ∷ 0 ∷ 0 ∷ []);
       answers = [];
       counted = 20;
     }
@@ -216,10 +220,10 @@ schedules =
       kind = 2;
       cells = 5;
       crew = 2;
-      table = 15 ∷ 16 ∷ 10 ∷ 5 ∷ 0 ∷ [];
-      events = order 0 10 ∷ steps 5 0 (order 1 16 ∷ steps 3 1 (steps 4 0 (order 0 15 ∷ steps 9 0 (step 1 ∷ order 0 5 ∷ steps 4 0 []))));
+      table = ones (15 ∷ 16 ∷ 10 ∷ 5 ∷ 0 ∷ []);
+      events = order 0 (one 10) ∷ steps 5 0 (order 1 (one 16) ∷ steps 3 1 (steps 4 0 (order 0 (one 15) ∷ steps 9 0 (step 1 ∷ order 0 (one 5) ∷ steps 4 0 []))));
       rounds = 10;
-      closed = 0 ∷ 0 ∷ 0 ∷ 0 ∷ 0 ∷ [];
+      closed = ones (0 ∷ 0 ∷ 0 ∷ 0 ∷ 0 ∷ []);
       answers = [];
       counted = 37;
     }
@@ -228,11 +232,11 @@ schedules =
       kind = 3;
       cells = 3;
       crew = 2;
-      table = 0 ∷ 4 ∷ 1 ∷ [];
-      events = order 0 1 ∷ order 1 3 ∷ [];
+      table = ones (0 ∷ 4 ∷ 1 ∷ []);
+      events = order 0 (one 1) ∷ order 1 (one 3) ∷ [];
       rounds = 2;
-      closed = 0 ∷ 4 ∷ 1 ∷ [];
-      answers = true ∷ false ∷ [];
+      closed = ones (0 ∷ 4 ∷ 1 ∷ []);
+      answers = 1 ∷ 0 ∷ [];
       counted = 3;
     }
     -- the greater of two keys comes while the smaller one is about to be put in behind a third
@@ -240,12 +244,133 @@ schedules =
       kind = 1;
       cells = 4;
       crew = 2;
-      table = 8 ∷ 0 ∷ 0 ∷ 0 ∷ [];
-      events = order 0 4 ∷ order 1 12 ∷ steps 2 0 (steps 4 1 []);
+      table = ones (8 ∷ 0 ∷ 0 ∷ 0 ∷ []);
+      events = order 0 (one 4) ∷ order 1 (one 12) ∷ steps 2 0 (steps 4 1 []);
       rounds = 5;
-      closed = 12 ∷ 8 ∷ 4 ∷ 0 ∷ [];
+      closed = ones (12 ∷ 8 ∷ 4 ∷ 0 ∷ []);
       answers = [];
       counted = 10;
+    }
+    -- ---- prices
+    -- two workers put in 8 at prices 3 and 5: the lower one stands
+    ∷ record {
+      kind = 1;
+      cells = 5;
+      crew = 2;
+      table = 0 ∷ 0 ∷ 0 ∷ 0 ∷ 0 ∷ [];
+      events = order 0 (content 8 3) ∷ order 1 (content 8 5) ∷ [];
+      rounds = 6;
+      closed = 0 ∷ 0 ∷ 0 ∷ content 8 3 ∷ 0 ∷ [];
+      answers = [];
+      counted = 5;
+    }
+    -- the higher one is there first: it is replaced, and nothing is carried on
+    ∷ record {
+      kind = 1;
+      cells = 5;
+      crew = 2;
+      table = 0 ∷ 0 ∷ 0 ∷ 0 ∷ 0 ∷ [];
+      events = order 0 (content 8 5) ∷ steps 2 0 (order 1 (content 8 3) ∷ []);
+      rounds = 6;
+      closed = 0 ∷ 0 ∷ 0 ∷ content 8 3 ∷ 0 ∷ [];
+      answers = [];
+      counted = 4;
+    }
+    -- both saw a higher price, and the lower one is written first
+    ∷ record {
+      kind = 1;
+      cells = 5;
+      crew = 2;
+      table = 0 ∷ 0 ∷ 0 ∷ content 8 9 ∷ content 3 7 ∷ [];
+      events = order 0 (content 8 3) ∷ order 1 (content 8 5) ∷ [];
+      rounds = 6;
+      closed = 0 ∷ 0 ∷ 0 ∷ content 8 3 ∷ content 3 7 ∷ [];
+      answers = [];
+      counted = 5;
+    }
+    -- an equal price finishes, and so does a higher one
+    ∷ record {
+      kind = 1;
+      cells = 5;
+      crew = 2;
+      table = 0 ∷ 0 ∷ 0 ∷ content 8 4 ∷ content 3 7 ∷ [];
+      events = order 0 (content 8 4) ∷ order 1 (content 3 8) ∷ [];
+      rounds = 6;
+      closed = 0 ∷ 0 ∷ 0 ∷ content 8 4 ∷ content 3 7 ∷ [];
+      answers = [];
+      counted = 3;
+    }
+    -- a content that is displaced and put in further on is replaced there at a lower price
+    ∷ record {
+      kind = 1;
+      cells = 5;
+      crew = 2;
+      table = 0 ∷ 0 ∷ 0 ∷ content 3 9 ∷ 0 ∷ [];
+      events = order 0 (content 8 1) ∷ order 1 (content 3 2) ∷ steps 2 0 [];
+      rounds = 10;
+      closed = 0 ∷ 0 ∷ 0 ∷ content 8 1 ∷ content 3 2 ∷ [];
+      answers = [];
+      counted = 7;
+    }
+    -- a content that is displaced meets its label at a lower price further on
+    ∷ record {
+      kind = 1;
+      cells = 5;
+      crew = 2;
+      table = 0 ∷ 0 ∷ 0 ∷ content 3 9 ∷ 0 ∷ [];
+      events = order 0 (content 8 1) ∷ order 1 (content 3 2) ∷ steps 2 0 (steps 3 1 []);
+      rounds = 10;
+      closed = 0 ∷ 0 ∷ 0 ∷ content 8 1 ∷ content 3 2 ∷ [];
+      answers = [];
+      counted = 6;
+    }
+    -- a content without a label is empty to an insert, which finishes on it
+    ∷ record {
+      kind = 1;
+      cells = 4;
+      crew = 1;
+      table = 7 ∷ 0 ∷ 0 ∷ 0 ∷ [];
+      events = order 0 (content 4 2) ∷ [];
+      rounds = 6;
+      closed = content 4 2 ∷ 0 ∷ 0 ∷ 0 ∷ [];
+      answers = [];
+      counted = 2;
+    }
+    -- a greater label is taken out, the other keeps its price
+    ∷ record {
+      kind = 2;
+      cells = 5;
+      crew = 2;
+      table = 0 ∷ 0 ∷ 0 ∷ content 8 9 ∷ content 3 7 ∷ [];
+      events = order 0 (content 8 0) ∷ order 1 (content 8 0) ∷ [];
+      rounds = 18;
+      closed = 0 ∷ 0 ∷ 0 ∷ content 3 7 ∷ 0 ∷ [];
+      answers = [];
+      counted = 12;
+    }
+    -- a content without a label is taken as a replacement, and copied as 0
+    ∷ record {
+      kind = 2;
+      cells = 4;
+      crew = 1;
+      table = content 4 3 ∷ 9 ∷ 0 ∷ 0 ∷ [];
+      events = order 0 (content 4 0) ∷ [];
+      rounds = 12;
+      closed = 0 ∷ 9 ∷ 0 ∷ 0 ∷ [];
+      answers = [];
+      counted = 4;
+    }
+    -- finds answer the price that stands, not the one ordered
+    ∷ record {
+      kind = 3;
+      cells = 5;
+      crew = 2;
+      table = 0 ∷ 0 ∷ 0 ∷ content 8 9 ∷ content 3 7 ∷ [];
+      events = order 0 (content 3 5) ∷ order 1 (content 4 0) ∷ [];
+      rounds = 4;
+      closed = 0 ∷ 0 ∷ 0 ∷ content 8 9 ∷ content 3 7 ∷ [];
+      answers = 7 ∷ 0 ∷ [];
+      counted = 3;
     }
     ∷ []
 

@@ -5,7 +5,8 @@ use activities::Activity;
 pub enum Answer {
     WentOn,
     Finished,
-    Yes,
+    // The price of the label looked up.
+    Price(u32),
     No,
     Idle,
 }
@@ -13,7 +14,7 @@ pub enum Answer {
 // What a step makes of the activity and of the content of the cell that it touches.
 pub struct Outcome {
     pub activity: Activity,
-    pub content: u32,
+    pub content: u64,
     pub answer: Answer,
 }
 

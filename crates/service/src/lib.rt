@@ -7,7 +7,7 @@ use protocol::TurnReply;
 use state::Phase;
 
 // The reply, the phase and the table are those of the plain turn.
-pub fn serve(phase: &mut Phase, cells: &mut [u32], worker: usize) -> TurnReply
+pub fn serve(phase: &mut Phase, cells: &mut [u64], worker: usize) -> TurnReply
     ensures { λ r. ⌜ (r ≡ turnCall gateway (now (phase .entry)) (now (cells .entry)) worker .reply)
         × ((now (phase .exit) ≡ turnCall gateway (now (phase .entry)) (now (cells .entry)) worker .phase)
         × (now (cells .exit) ≡ turnTable gateway (now (phase .entry)) (now (cells .entry)) worker)) ⌝ }

@@ -2,26 +2,35 @@
 use mathlib.Core.Path.{_≡_, refl, sym, ap, _∙_}
 use mathlib.Core.Logic.{_≢_}
 use mathlib.Core.Bool.{Bool, true, false, cond}
-use mathlib.Core.List.{List, [], _∷_, _++_}
+use mathlib.Core.List.{List, [], _∷_, _++_, map}
 use Prim.Native.Nat.{ℕ, _≤_, _<_}
 use native.Mathlib.Omega.{arith}
-use borrow.Author.Tests.{lt-ltb, le-ltb}
-use lib.ListN.{length, take}
-use Rattle.words.specs.Words.{keysOf, countOf}
+use borrow.Author.Tests.{lt-ltb, le-ltb, eq-eqb, ne-eqb}
+use lib.Dec.{eqb}
+use lib.ListN.{length, take, length-map}
+use Rattle.activities.specs.Activities.{isIdle}
+use Rattle.words.specs.Words.{entriesOf, countOf}
 use Rattle.words.proofs.Theorem.{theorem as listing}
 use Rattle.words.proofs.Words.{occupied-le}
 use Rattle.state.specs.Model.{gateway}
 use Rattle.state.specs.Open.{openCall}
+use Rattle.state.specs.Refusals.{if, unless, firstOf}
+use Rattle.state.specs.declared.Refusal.the-variants.{Blank, Busy, Full, WrongPrice}
+use Rattle.state.specs.declared.Replied.{Replied}
+use Rattle.state.specs.declared.Reply.{Reply}
 use Rattle.state.specs.declared.Reply.the-variants.{Accepted, Refused}
 use Rattle.tables.specs.Calls.{checkCall, listCall}
 use Rattle.tables.specs.declared.Counted.{Counted}
 use Rattle.tables.specs.declared.Counted.the-variants as counted
 use Rattle.tables.proofs.Answers.{list-by}
-use Rattle.protocol.specs.Calls.{closeCall, orderCall, turnCall}
+use Rattle.protocol.specs.Bars.{doing, usedUp, mispriced, phaseBars, numberBars}
+use Rattle.protocol.specs.Calls.{closeCall, orderReply, ordered, orderCall, turnCall}
 use Rattle.text.specs.Bytes.{bytesOf}
+use Rattle.text.specs.Digits.{digitsOf}
+use Rattle.text.specs.Fields.{fieldsOf}
 use Rattle.ring.proofs.Tests.{not-both}
 use Rattle.text.proofs.Test.{by-test, by-lt}
-use Rattle.lines.specs.Grammar.{known, mostNumbers, padded, readingOf}
+use Rattle.lines.specs.Grammar.{wordOf, known, mostNumbers, padded, readingOf}
 use Rattle.lines.specs.declared.Command.{Command}
 use Rattle.lines.specs.declared.Line.{Line}
 use Rattle.fitting.specs.declared.Handling.the-variants.{Performed}
@@ -29,15 +38,16 @@ use Rattle.fitting.specs.declared.Reading.{Reading}
 use Rattle.fitting.specs.declared.Reading.the-variants.{Todo}
 use Rattle.fitting.specs.declared.Reading.the-variants as reading
 use Rattle.fitting.specs.declared.Task.the-variants.{Perform, Refuse}
-use Rattle.fitting.specs.Fitting.{rowOf, fitsRow, handled, handlingIn, readingIn}
+use Rattle.fitting.specs.Fitting.{orderNumbers, rowOf, fitsRow, handled, handlingIn, readingIn}
 use Rattle.dealing.specs.Deal as dealing
-use Rattle.printing.specs.Fields.{finishFields, toldFields}
+use Rattle.printing.specs.Fields.{replyFields, finishFields, toldFields}
 use Rattle.sheet.specs.Replay.{State, Answer, answered, answerOf, noFinishes, listTold}
 use Rattle.sheet.specs.Promise.{line, FirstIs, greatest, InRange, Unreadable, refusedText, workersText, finishText, stateWith, Does, Bad}
 use Rattle.sheet.specs.Promise.{InShut, InOpen, InEither}
 use Rattle.sheet.proofs.Ran.{run-crew, run-places}
-use Rattle.sheet.proofs.Texts.{reply-text, turn-text, numbers-text, workers-text}
-use Rattle.sheet.proofs.Written.{formOf, lineWith, read-line, unreadable-fits, first-says, says-first}
+use Rattle.sheet.proofs.Texts.{reply-text, turn-text, list-text, workers-text}
+use Rattle.sheet.proofs.Unreadable.{fields-written}
+use Rattle.sheet.proofs.Written.{order-first, nameOf, lineWith, read-line, fits-form, unreadable-fits, first-says, says-first}
 
 -- ---- what does not fit is bad, unless every line of the command is refused, which is so of `order` in a shut phase alone
 bad-unless : (k : ℕ) (shut : Bool) (c : Command) → (shut ≡ true → c ≢ Command.Order) → handled (handlingIn shut (rowOf k c)) false c ≡ reading.Bad
@@ -78,10 +88,10 @@ module _ (s : State) where
 
   -- of a line in a command's form
   module _ (c : Command) (ns : List ℕ) (is : known c ≡ true) (few : length ns ≤ mostNumbers) (range : InRange ns) where
-    answer-written : (r : Reading) → asked (lineWith c ns) ≡ r → answerOf s (readingOf (line (formOf c .word) ns)) ≡ answered s r (padded ns)
+    answer-written : (r : Reading) → asked (lineWith c ns) ≡ r → answerOf s (readingOf (line (nameOf c) ns)) ≡ answered s r (padded ns)
     answer-written r e =
         let x = read-line c ns is few range in
-        answer-as (line (formOf c .word) ns) r (ap asked x ∙ e) ∙ ap (λ (x : Line). answered s r (x .numbers .values)) x
+        answer-as (line (nameOf c) ns) r (ap asked x ∙ e) ∙ ap (λ (x : Line). answered s r (x .numbers .values)) x
 
   is-bad : (l : List ℕ) → asked (readingOf l) ≡ reading.Bad → Bad s l
   unfolding bytesOf
@@ -91,7 +101,7 @@ module _ (s : State) where
   unfolding bytesOf
   is-refused l e = answer-as l (Todo Refuse) e
 
-  unreadable : (l : List ℕ) → Unreadable l → (s .phase .shut ≡ true → FirstIs (bytesOf "order") l → ⊥) → Bad s l
+  unreadable : (l : List ℕ) → Unreadable (s .phase .kind) l → (s .phase .shut ≡ true → FirstIs (bytesOf "order") l → ⊥) → Bad s l
   unreadable l u h =
       let k = s .phase .kind in
       let c = readingOf l .command in
@@ -101,7 +111,7 @@ module _ (s : State) where
   -- ---- a shut phase
   module _ (shut : s .phase .shut ≡ true) where
     -- `cells` and a number, by its two tests
-    cells-by : (n : ℕ) → n ≤ greatest → answerOf s (readingOf (line "cells" (n ∷ []))) ≡ answered s (Todo (Perform Command.Cells)) (n ∷ 0 ∷ [])
+    cells-by : (n : ℕ) → n ≤ greatest → answerOf s (readingOf (line "cells" (n ∷ []))) ≡ answered s (Todo (Perform Command.Cells)) (n ∷ 0 ∷ 0 ∷ [])
     cells-by n h = answer-written Command.Cells (n ∷ []) refl (omega arith) (h, tt) (Todo (Perform Command.Cells)) (rw shut)
 
     too-many : (n : ℕ) → ((2 ≤ n) × (n ≤ 4096) → ⊥) → 2 ≤ n → 4096 < n
@@ -131,13 +141,50 @@ module _ (s : State) where
         ap (λ (m : ℕ). finishFields (take m (ran .dealt .finishes))) (run-crew gateway (s .phase) (s .table))
         ∙ workers-text (ran .dealt .finishes) (s .phase .crew) (omega (arith, run-places gateway (s .phase) (s .table)))
 
+    -- outside put-in shifts the price of an order call is not read
+    unread-price : (w v a b : ℕ) → s .phase .kind ≢ 1 → orderCall gateway (s .phase) w v a ≡ orderCall gateway (s .phase) w v b
+    unread-price w v a b ne =
+        let p = s .phase in
+        let none : mispriced (p .kind) a ≡ mispriced (p .kind) b = rw (ne-eqb (p .kind) 1 ne) in
+        let replies : orderReply gateway p w v a ≡ orderReply gateway p w v b =
+        ap (λ (x : Bool). firstOf (phaseBars gateway p ++ numberBars gateway p w ++ unless (isIdle (doing p w)) Busy ∷ if (eqb v 0) Blank ∷ if x WrongPrice
+        ∷ if (usedUp (p .kind) (p .left)) Full ∷ [])) none in
+        ap (ordered gateway p w v a) replies ∙ same-ordered (orderReply gateway p w v b)
+      where
+        same-ordered : (r : Reply) → ordered gateway (s .phase) w v a r ≡ ordered gateway (s .phase) w v b r
+        same-ordered Accepted = rw (ne-eqb (s .phase .kind) 1 ne)
+        same-ordered (Refused r) = refl
+
+    -- an order with another number of fields than its shift's kind takes
+    misfit : (ns : List ℕ) → length ns ≢ orderNumbers (s .phase .kind) → Bad s (line "order" ns)
+    misfit ns many =
+        let k = s .phase .kind in
+        let l = line "order" ns in
+        let c : readingOf l .command ≡ Command.Order = first-says l Command.Order refl (order-first ns) in
+        let no : fitsRow (rowOf k Command.Order) (readingOf l .numbers) ≡ false = by-test _
+        (λ f.
+        let (_, w) = fits-form l k (rw c f) in
+        let fields : wordOf Command.Order ∷ map digitsOf ns ≡ wordOf (readingOf l .command) ∷ map digitsOf (w .numbers) =
+        sym (fields-written Command.Order ns) ∙ ap fieldsOf (w .text) ∙ fields-written (readingOf l .command) (w .numbers) in
+        let long : length (map digitsOf ns) ≡ length (map digitsOf (w .numbers)) = omega (arith, ap length fields) in
+        absurd (many (sym (length-map ns digitsOf) ∙ long ∙ length-map (w .numbers) digitsOf ∙ w .count ∙ ap (λ (d : Command). rowOf k d .takes) c)))
+        (λ f. f) in
+        is-bad l (rw (up, c, no))
+
     pub in-open : InOpen s
     unfolding bytesOf
     in-open = record {
       cells = λ l e. is-bad l (rw (up, first-says l Command.Cells refl e));
       opening = λ l e. is-bad l (rw (up, first-says l Command.Open refl e));
-      order = λ w v a b. answer-written Command.Order (w ∷ v ∷ []) refl (omega arith) (a, (b, tt)) (Todo (Perform Command.Order)) (rw up)
-          ∙ rw (reply-text (orderCall gateway (s .phase) w v .reply));
+      order-priced = λ is w v cents a b d.
+          answer-written Command.Order (w ∷ v ∷ cents ∷ []) refl (omega arith) (a, (b, (d, tt))) (Todo (Perform Command.Order)) (rw (up, eq-eqb (s .phase .kind) 1 is))
+          ∙ rw (reply-text (orderCall gateway (s .phase) w v cents .reply));
+      order = λ ne w v cents a b.
+          answer-written Command.Order (w ∷ v ∷ []) refl (omega arith) (a, (b, tt)) (Todo (Perform Command.Order)) (rw (up, ne-eqb (s .phase .kind) 1 ne))
+          ∙ ap (λ (r : Replied). answering (stateWith (r .phase) (s .table)) (replyFields (r .reply))) (unread-price w v 0 cents ne)
+          ∙ rw (reply-text (orderCall gateway (s .phase) w v cents .reply));
+      order-misfit = λ is ns many. misfit ns (rw (eq-eqb (s .phase .kind) 1 is) many);
+      order-other-misfit = λ ne ns many. misfit ns (rw (ne-eqb (s .phase .kind) 1 ne) many);
       run = λ few. answer-written Command.Run [] refl (omega arith) tt (Todo (Perform Command.Run)) (rw up)
           ∙ ap (answering (stateWith (ran .dealt .phase) (ran .table))) (run-text few);
       unreadable = λ l u. unreadable l u (λ e. absurd (not-both (s .phase .shut) e up));
@@ -145,10 +192,10 @@ module _ (s : State) where
 
   -- ---- shut or open
   -- the list call's count is that of the keys: there is always room for them
-  all-listed : checkCall gateway (s .table) ≡ Accepted → listCall gateway (s .table) (s .table) ≡ counted.Keys (length (keysOf (s .table)))
+  all-listed : checkCall gateway (s .table) ≡ Accepted → listCall gateway (s .table) (s .table) ≡ counted.Keys (length (entriesOf (s .table)))
   all-listed e =
       let t = s .table in
-      let count : countOf t ≡ length (keysOf t) = listing t .count ∙ sym (listing t .long) in
+      let count : countOf t ≡ length (entriesOf t) = listing t .count ∙ sym (listing t .long) in
       let fits : countOf t ≤ length t = omega (arith, listing t .count, occupied-le t) in
       list-by gateway t t Accepted e ∙ rw (le-ltb (length t) (countOf t) fits, count)
 
@@ -166,6 +213,6 @@ module _ (s : State) where
     close =
         answer-written Command.Close [] refl (omega arith) tt (Todo (Perform Command.Close)) (in-either-way (s .phase .shut) Command.Close)
         ∙ rw (reply-text (closeCall gateway (s .phase) .reply));
-    list = λ e. listed-as (counted.Keys (length (keysOf (s .table)))) (all-listed e) ∙ rw (numbers-text (keysOf (s .table)));
+    list = λ e. listed-as (counted.Keys (length (entriesOf (s .table)))) (all-listed e) ∙ ap (answering s) (list-text (entriesOf (s .table)));
     list-refused = λ r e. listed-as (counted.Refused r) (list-by gateway (s .table) (s .table) (Refused r) e);
   }

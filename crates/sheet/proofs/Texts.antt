@@ -6,6 +6,8 @@ use native.Mathlib.Omega.{arith}
 use lib.ListN.{length, getD, take}
 use lib.Seq.{take-suc}
 use Rattle.text.specs.Bytes.{bytesOf}
+use Rattle.text.specs.Digits.{digitsOf}
+use Rattle.prices.specs.Contents.{label, price}
 use Rattle.rule.specs.declared.Answer.the-variants as answer
 use Rattle.state.specs.declared.Reply.{Reply}
 use Rattle.state.specs.declared.Reply.the-variants.{Accepted, Refused}
@@ -14,8 +16,8 @@ use Rattle.protocol.specs.declared.TurnReply.the-variants as turn
 use Rattle.dealing.specs.Deal.{unfinished}
 use Rattle.dealing.specs.declared.Ended.{Ended}
 use Rattle.dealing.specs.declared.Finish.{Finish}
-use Rattle.printing.specs.Fields.{field, finishWord, replyFields, turnFields, finishFields, numberFields}
-use Rattle.sheet.specs.Promise.{replyText, turnText, endText, workersText, finishText, numbersText}
+use Rattle.printing.specs.Fields.{field, finishWord, replyFields, turnFields, finishFields, entryFields}
+use Rattle.sheet.specs.Promise.{replyText, turnText, endText, workersText, finishText, pricedText, listText}
 
 pub reply-text : (r : Reply) → replyFields r ≡ replyText r
 unfolding bytesOf
@@ -26,22 +28,31 @@ pub turn-text : (r : TurnReply) → turnFields r ≡ turnText r
 unfolding bytesOf
 turn-text (turn.Answered answer.WentOn) = refl
 turn-text (turn.Answered answer.Finished) = refl
-turn-text (turn.Answered answer.Yes) = refl
+turn-text (turn.Answered (answer.Price q)) = sym (append-nil (9 ∷ digitsOf q))
 turn-text (turn.Answered answer.No) = refl
 turn-text (turn.Answered answer.Idle) = refl
 turn-text (turn.Refused r) = refl
 
-pub numbers-text : (ns : List ℕ) → numberFields ns ≡ numbersText ns
+priced-text : (es : List ℕ) → entryFields es ≡ pricedText es
 unfolding bytesOf
-numbers-text [] = refl
-numbers-text (n ∷ ns) = rw (numbers-text ns)
+priced-text [] = refl
+priced-text (e ∷ es) =
+    rw (
+      priced-text es,
+      append-nil (digitsOf (price e)),
+      append-assoc (digitsOf (label e)) (9 ∷ digitsOf (price e)) (pricedText es),
+    )
+
+pub list-text : (es : List ℕ) → field (digitsOf (length es)) ++ entryFields es ≡ listText es
+unfolding bytesOf
+list-text es = rw (priced-text es, append-nil (digitsOf (length es)))
 
 -- ---- after a run
 end-text : (e : Ended) → field (finishWord e) ≡ endText e
 unfolding bytesOf
 end-text Ended.Nothing = refl
 end-text Ended.Finished = refl
-end-text Ended.Yes = refl
+end-text (Ended.Price q) = sym (append-nil (9 ∷ digitsOf q))
 end-text Ended.No = refl
 
 finish-append : (fs gs : List Finish) → finishFields (fs ++ gs) ≡ finishFields fs ++ finishFields gs

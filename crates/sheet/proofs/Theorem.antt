@@ -7,6 +7,7 @@ use Rattle.state.proofs.Model.{gateway-proper}
 use Rattle.lines.specs.Grammar.{readingOf}
 use Rattle.protocol.specs.IsWellFormed.{isWellFormed}
 use Rattle.dealing.proofs.Reached.{passed, crew}
+use Rattle.dealing.proofs.Telling.{tells-promise}
 use Rattle.dealing.proofs.Theorem.{run-promise}
 use Rattle.sheet.specs.Replay.{State}
 use Rattle.sheet.specs.Valid.{Valid}
@@ -26,7 +27,7 @@ pub sheet-promise : SheetPromise
 unfolding isWellFormed
 sheet-promise = record {
   before-open = refl;
-  before-order = λ w v. refl;
+  before-order = λ w v cents. refl;
   before-turn = λ t w. refl;
   before-close = refl;
   before-cells = refl;
@@ -38,5 +39,6 @@ sheet-promise = record {
   valid-first = blank-valid;
   valid = λ s v l. valid-kept s v (readingOf l);
   crew = crew-within;
+  told = λ s v up w a. tells-promise gateway gateway-proper (s .phase) (s .table) (v .reached up) up w a;
   ran = λ s v up. run-promise gateway gateway-proper (s .phase) (s .table) (v .reached up) up;
 }

@@ -21,7 +21,7 @@ use Rattle.lines.specs.declared.Command.{Command}
 use Rattle.lines.proofs.Lists.{tabless}
 use Rattle.lines.proofs.Words.{tabless-word}
 use Rattle.sheet.specs.Promise.{line, greatest, InRange, FirstIs, WrittenIn, Unreadable}
-use Rattle.sheet.proofs.Written.{formOf, same-word, line-joined, first-is}
+use Rattle.sheet.proofs.Written.{nameOf, formOf, same-word, line-joined, first-is}
 
 -- ---- the fields in front of a tab and behind it
 fields-tab : (front l : List ℕ) → fieldsOf (front ++ 9 ∷ l) ≡ fieldsOf front ++ fieldsOf l
@@ -32,7 +32,7 @@ fields-tab (b ∷ front) l = by-test (eqb b 9)
     (λ e. rw (e, fields-tab front l, first-field front .1))
 
 -- ---- the fields of a line in a form
-fields-written : (c : Command) (ns : List ℕ) → fieldsOf (line (formOf c .word) ns) ≡ wordOf c ∷ map digitsOf ns
+pub fields-written : (c : Command) (ns : List ℕ) → fieldsOf (line (nameOf c) ns) ≡ wordOf c ∷ map digitsOf ns
 unfolding Tabless
 fields-written c ns = rw (same-word, line-joined) (fields-joined (wordOf c) (map digitsOf ns) (tabless-word c, tabless ns))
 
@@ -45,8 +45,8 @@ number-among (n ∷ ns) [] f gs r e = (n, r .0, cc)
 number-among (n ∷ ns) (g ∷ fs) f gs r e = number-among ns fs f gs (r .1) (cc)
 
 -- what stands behind a tab begins with a number in range
-behind-tab : (c : Command) (front l : List ℕ) → WrittenIn (formOf c) (front ++ 9 ∷ l) → (n : ℕ) × (n ≤ greatest) × (digitsOf n ≡ firstField l)
-behind-tab c front l w =
+behind-tab : (k : ℕ) (c : Command) (front l : List ℕ) → WrittenIn (formOf k c) (front ++ 9 ∷ l) → (n : ℕ) × (n ≤ greatest) × (digitsOf n ≡ firstField l)
+behind-tab k c front l w =
     let fs = first-field front .0 in
     let gs = first-field l .0 in
     let e : wordOf c ∷ map digitsOf (w .numbers) ≡ firstField front ∷ (fs ++ firstField l ∷ gs) =
@@ -54,24 +54,24 @@ behind-tab c front l w =
     number-among (w .numbers) fs (firstField l) gs (w .range) (cc)
 
 -- ---- in no command's form, in none
-in-none : (l : List ℕ) → ((c : Command) → WrittenIn (formOf c) l → ⊥) → Unreadable l
-in-none l h = (h Command.Cells, (h Command.Open, (h Command.Order, (h Command.Turn, (h Command.Run, (h Command.Close, (h Command.List, tt)))))))
+in-none : (k : ℕ) (l : List ℕ) → ((c : Command) → WrittenIn (formOf k c) l → ⊥) → Unreadable k l
+in-none k l h = (h Command.Cells, (h Command.Open, (h Command.Order, (h Command.Turn, (h Command.Run, (h Command.Close, (h Command.List, tt)))))))
 
 no-leading-zero : (n b : ℕ) (ds : List ℕ) → digitsOf n ≡ 48 ∷ b ∷ ds → ⊥
 no-leading-zero zero b ds e = let l = ap length (sym (text-promise .zero-digit) ∙ e) in omega arith
 no-leading-zero (suc n) b ds e = omega (arith, text-promise .digits (suc n) .no-leading-zero (omega arith), ap (λ (x : List ℕ). getD x 0 0) e)
 
-pub leading-zero : (front rest : List ℕ) (b : ℕ) → b ≢ 9 → Unreadable (front ++ (bytesOf "\t0" ++ b ∷ rest))
+pub leading-zero : (front rest : List ℕ) (k b : ℕ) → b ≢ 9 → Unreadable k (front ++ (bytesOf "\t0" ++ b ∷ rest))
 unfolding bytesOf
-leading-zero front rest b h = in-none (front ++ 9 ∷ 48 ∷ b ∷ rest)
+leading-zero front rest k b h = in-none k (front ++ 9 ∷ 48 ∷ b ∷ rest)
     (λ c w.
-    let (n, _, e) = behind-tab c front (48 ∷ b ∷ rest) w in
+    let (n, _, e) = behind-tab k c front (48 ∷ b ∷ rest) w in
     no-leading-zero n b (firstField rest) (e ∙ first-later 48 (b ∷ rest) refl ∙ rw (first-later b rest (ne-eqb b 9 h))))
 
-pub above : (front rest : List ℕ) (n : ℕ) → greatest < n → FirstIs (digitsOf n) rest → Unreadable (front ++ (bytesOf "\t" ++ rest))
+pub above : (front rest : List ℕ) (k n : ℕ) → greatest < n → FirstIs (digitsOf n) rest → Unreadable k (front ++ (bytesOf "\t" ++ rest))
 unfolding bytesOf
-above front rest n h is = in-none (front ++ 9 ∷ rest)
+above front rest k n h is = in-none k (front ++ 9 ∷ rest)
     (λ c w.
-    let (m, few, e) = behind-tab c front rest w in
+    let (m, few, e) = behind-tab k c front rest w in
     let same : digitsOf m ≡ digitsOf n = e ∙ first-is (digitsOf n) rest (tabless-digits n) is in
     omega (arith, text-promise .digits m .value, text-promise .digits n .value, ap valueOf same))

@@ -51,10 +51,10 @@ opened-reached k m t reply.Accepted e f =
 opened-reached k m t (reply.Refused r) e f = never true refl f
 
 -- ---- orders and closes leave a shut phase shut
-order-shut : (p : Phase) (w v : ℕ) → orderCall gateway p w v .phase .shut ≡ p .shut
-order-shut p w v =
-    let shut : Reply → Bool = λ a. call.ordered gateway p w v a .phase .shut in
-    by-reply (call.orderReply gateway p w v) (λ e. ap shut e) (λ _ e. ap shut e)
+order-shut : (p : Phase) (w v cents : ℕ) → orderCall gateway p w v cents .phase .shut ≡ p .shut
+order-shut p w v cents =
+    let shut : Reply → Bool = λ a. call.ordered gateway p w v cents a .phase .shut in
+    by-reply (call.orderReply gateway p w v cents) (λ e. ap shut e) (λ _ e. ap shut e)
 
 close-shut : (p : Phase) → closeCall gateway p .phase .shut ≡ false → p .shut ≡ false
 close-shut p f =
@@ -72,11 +72,11 @@ module _ (s : State) (v : Valid s) where
   open-kept : (k m : ℕ) → Valid (calls (s .table) (openCall gateway k m (s .table)) .state)
   open-kept k m = record { few = v .few; reached = opened-reached k m (s .table) (openReply gateway k m (s .table)) refl }
 
-  order-kept : (w x : ℕ) → Valid (calls (s .table) (orderCall gateway (s .phase) w x) .state)
-  order-kept w x = record {
+  order-kept : (w x cents : ℕ) → Valid (calls (s .table) (orderCall gateway (s .phase) w x cents) .state)
+  order-kept w x cents = record {
     few = v .few;
-    reached = λ f. let h = v .reached (sym (order-shut (s .phase) w x) ∙ f) in
-        record { kind = h .kind; crew = h .crew; opened = h .opened; by = order-from gateway gateway-proper (h .kind) (h .crew) (h .opened) (s .phase) (s .table) (h .by) w x };
+    reached = λ f. let h = v .reached (sym (order-shut (s .phase) w x cents) ∙ f) in
+        record { kind = h .kind; crew = h .crew; opened = h .opened; by = order-from gateway gateway-proper (h .kind) (h .crew) (h .opened) (s .phase) (s .table) (h .by) w x cents };
   }
 
   turn-kept : (w : ℕ) → Valid (turnTask s w .state)
@@ -118,7 +118,7 @@ module _ (s : State) (v : Valid s) where
   command-kept : (c : Command) (ns : List ℕ) → Allowed c → Valid (commanded s c ns .state)
   command-kept Command.Cells ns h = cells-kept (getD ns 0 0) (cells-shut h)
   command-kept Command.Open ns h = open-kept (getD ns 0 0) (getD ns 1 0)
-  command-kept Command.Order ns h = order-kept (getD ns 0 0) (getD ns 1 0)
+  command-kept Command.Order ns h = order-kept (getD ns 0 0) (getD ns 1 0) (getD ns 2 0)
   command-kept Command.Turn ns h = turn-kept (getD ns 0 0)
   command-kept Command.Run ns h = run-kept (run-open h)
   command-kept Command.Close ns h = close-kept

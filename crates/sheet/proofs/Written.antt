@@ -4,6 +4,7 @@ use mathlib.Core.Logic.{inl, inr}
 use mathlib.Core.Bool.{true}
 use mathlib.Core.List.{List, [], _∷_, _++_, map, append-nil}
 use Prim.Native.Nat.{ℕ, zero, suc, _≤_}
+use Prim.Native.String.{String}
 use native.Mathlib.Omega.{arith}
 use borrow.Author.Tests.{eqb-true}
 use lib.Dec.{eqb}
@@ -26,18 +27,21 @@ use Rattle.lines.proofs.Words.{not-unknown, tabless-word}
 use Rattle.fitting.specs.Fitting.{rowOf, fitsRow}
 use Rattle.sheet.specs.Promise.{line, greatest, InRange, Form, form, numbersText, FirstIs, WrittenIn, Unreadable}
 
--- ---- the form of a command
-abbrev pub formOf : Command → Form
-formOf Command.Cells = form "cells" 1
-formOf Command.Open = form "open" 2
-formOf Command.Order = form "order" 2
-formOf Command.Turn = form "turn" 1
-formOf Command.Run = form "run" 0
-formOf Command.Close = form "close" 0
-formOf Command.List = form "list" 0
-formOf Command.Unknown = form "" 0
+-- ---- the form of a command in a shift of kind k
+abbrev pub nameOf : Command → String
+nameOf Command.Cells = "cells"
+nameOf Command.Open = "open"
+nameOf Command.Order = "order"
+nameOf Command.Turn = "turn"
+nameOf Command.Run = "run"
+nameOf Command.Close = "close"
+nameOf Command.List = "list"
+nameOf Command.Unknown = ""
 
-pub same-word : (c : Command) → bytesOf (formOf c .word) ≡ wordOf c
+abbrev pub formOf : ℕ → Command → Form
+formOf k c = form (nameOf c) (rowOf k c .takes)
+
+pub same-word : (c : Command) → bytesOf (nameOf c) ≡ wordOf c
 unfolding bytesOf
 same-word Command.Cells = refl
 same-word Command.Open = refl
@@ -48,26 +52,16 @@ same-word Command.Close = refl
 same-word Command.List = refl
 same-word Command.Unknown = refl
 
-same-count : (k : ℕ) (c : Command) → rowOf k c .takes ≡ formOf c .count
-same-count k Command.Cells = refl
-same-count k Command.Open = refl
-same-count k Command.Order = refl
-same-count k Command.Turn = refl
-same-count k Command.Run = refl
-same-count k Command.Close = refl
-same-count k Command.List = refl
-same-count k Command.Unknown = refl
-
 -- an unreadable line is not in it
-no-form : (c : Command) (l : List ℕ) → known c ≡ true → Unreadable l → WrittenIn (formOf c) l → ⊥
-no-form Command.Cells l k u = u .0
-no-form Command.Open l k u = u .1 .0
-no-form Command.Order l k u = u .1 .1 .0
-no-form Command.Turn l k u = u .1 .1 .1 .0
-no-form Command.Run l k u = u .1 .1 .1 .1 .0
-no-form Command.Close l k u = u .1 .1 .1 .1 .1 .0
-no-form Command.List l k u = u .1 .1 .1 .1 .1 .1 .0
-no-form Command.Unknown l k u = absurd (not-unknown k refl)
+no-form : (k : ℕ) (c : Command) (l : List ℕ) → known c ≡ true → Unreadable k l → WrittenIn (formOf k c) l → ⊥
+no-form k Command.Cells l is u = u .0
+no-form k Command.Open l is u = u .1 .0
+no-form k Command.Order l is u = u .1 .1 .0
+no-form k Command.Turn l is u = u .1 .1 .1 .0
+no-form k Command.Run l is u = u .1 .1 .1 .1 .0
+no-form k Command.Close l is u = u .1 .1 .1 .1 .1 .0
+no-form k Command.List l is u = u .1 .1 .1 .1 .1 .1 .0
+no-form k Command.Unknown l is u = absurd (not-unknown is refl)
 
 -- ---- what is read of a line in a form
 pub line-joined : (word : List ℕ) (ns : List ℕ) → word ++ numbersText ns ≡ joined (word ∷ map digitsOf ns)
@@ -84,7 +78,7 @@ abbrev pub lineWith : Command → List ℕ → Line
 lineWith c ns = record { command = c; numbers = numbered ns }
 
 pub read-line : (c : Command) (ns : List ℕ) → known c ≡ true → length ns ≤ mostNumbers → InRange ns
-    → readingOf (line (formOf c .word) ns) ≡ lineWith c ns
+    → readingOf (line (nameOf c) ns) ≡ lineWith c ns
 read-line c ns k few r =
     let e : take (length ns) (padded ns) ≡ ns = numbers-in ns in
     let readable : Readable (lineWith c ns) = record { command = k; few = few; range = rw e (in-range ns r); zeros = rw e } in
@@ -99,11 +93,11 @@ module _ (l : List ℕ) where
   abbrev read : Line
   read = readingOf l
 
-  fits-form : (k : ℕ) → fitsRow (rowOf k (read .command)) (read .numbers) ≡ true → (known (read .command) ≡ true) × WrittenIn (formOf (read .command)) l
+  pub fits-form : (k : ℕ) → fitsRow (rowOf k (read .command)) (read .numbers) ≡ true → (known (read .command) ≡ true) × WrittenIn (formOf k (read .command)) l
   fits-form k f =
       let (is, many) = both-true (read .numbers .readable) (eqb (read .numbers .count) (rowOf k (read .command) .takes)) f in
       let readable : Readable read = lines-promise .reading l .readable is in
-      let count : read .numbers .count ≡ formOf (read .command) .count = eqb-true _ _ many ∙ same-count k (read .command) in (
+      let count : read .numbers .count ≡ rowOf k (read .command) .takes = eqb-true _ _ many in (
         readable .command,
         record {
           numbers = numbersIn read;
@@ -113,8 +107,8 @@ module _ (l : List ℕ) where
         },
       )
 
-  pub unreadable-fits : (k : ℕ) → Unreadable l → fitsRow (rowOf k (read .command)) (read .numbers) ≡ true → ⊥
-  unreadable-fits k u f = let (is, written) = fits-form k f in no-form (read .command) l is u written
+  pub unreadable-fits : (k : ℕ) → Unreadable k l → fitsRow (rowOf k (read .command)) (read .numbers) ≡ true → ⊥
+  unreadable-fits k u f = let (is, written) = fits-form k f in no-form k (read .command) l is u written
 
 -- ---- the first field says the command
 -- a word without a tab is cut off at the tab behind it
@@ -134,14 +128,18 @@ unfolding bytesOf
 is-first f l [] e = inl e
 is-first f l (g ∷ fs) e = inr (joined (g ∷ fs), e)
 
+-- the word of a line is its first field
+pub order-first : (ns : List ℕ) → FirstIs (bytesOf "order") (line "order" ns)
+order-first ns = is-first (bytesOf "order") (line "order" ns) (map digitsOf ns) (line-joined (bytesOf "order") ns)
+
 module _ (l : List ℕ) (c : Command) (is : known c ≡ true) where
   said : Says (firstField l) (readingOf l .command)
   said = lines-promise .reading l .command (firstField l) (first-field l .0) (first-field l .1)
 
-  pub first-says : FirstIs (bytesOf (formOf c .word)) l → readingOf l .command ≡ c
+  pub first-says : FirstIs (bytesOf (nameOf c)) l → readingOf l .command ≡ c
   first-says e = said .says c is (first-is (wordOf c) l (tabless-word c) (rw same-word at e))
 
-  pub says-first : readingOf l .command ≡ c → FirstIs (bytesOf (formOf c .word)) l
+  pub says-first : readingOf l .command ≡ c → FirstIs (bytesOf (nameOf c)) l
   says-first e =
       let w : firstField l ≡ wordOf c = said .word (λ u. not-unknown is (sym e ∙ u)) ∙ ap wordOf e in
       rw (same-word, ← w) (is-first (firstField l) l (first-field l .0) (sym (joined-fields l) ∙ ap joined (first-field l .1)))

@@ -2,12 +2,15 @@
 -- ("The shift sheet"). Proved in proofs/Theorem.
 use mathlib.Core.Path.{_≡_}
 use mathlib.Core.Logic.{_≢_, _⊎_}
-use mathlib.Core.Bool.{true, false}
+use mathlib.Core.Bool.{true, false, cond}
 use mathlib.Core.List.{List, [], _∷_, _++_}
 use Prim.Native.Nat.{ℕ, zero, suc, _≤_, _<_}
 use Prim.Native.String.{String}
+use lib.Dec.{eqb}
 use lib.ListN.{length, getD, replicate}
-use Rattle.words.specs.Words.{keysOf}
+use Rattle.prices.specs.Contents.{label, price}
+use Rattle.words.specs.Words.{entriesOf}
+use Rattle.rule.specs.declared.Answer.{Answer}
 use Rattle.rule.specs.declared.Answer.the-variants as answer
 use Rattle.state.specs.Model.{gateway}
 use Rattle.state.specs.Open.{openCall}
@@ -27,7 +30,7 @@ use Rattle.text.specs.Digits.{digitsOf}
 use Rattle.lines.specs.Grammar.{readingOf}
 use Rattle.dealing.specs.Deal as dealing
 use Rattle.dealing.specs.Deal.{unfinished}
-use Rattle.dealing.specs.Promise.{Runs}
+use Rattle.dealing.specs.Promise.{Runs, Tells}
 use Rattle.dealing.specs.declared.Ended.{Ended}
 use Rattle.dealing.specs.declared.Finish.{Finish}
 use Rattle.sheet.specs.Replay.{State, blank, answerOf}
@@ -63,8 +66,10 @@ pub record Form : Type 0 where
 abbrev pub form : String → ℕ → Form
 form word count = record { word = word; count = count }
 
-abbrev pub forms : List Form
-forms = form "cells" 1 ∷ form "open" 2 ∷ form "order" 2 ∷ form "turn" 1 ∷ form "run" 0 ∷ form "close" 0 ∷ form "list" 0 ∷ []
+-- in a shift of kind k: an order has a price in a put-in shift alone
+abbrev pub forms : ℕ → List Form
+forms k =
+    form "cells" 1 ∷ form "open" 2 ∷ form "order" (cond (eqb k 1) 3 2) ∷ form "turn" 1 ∷ form "run" 0 ∷ form "close" 0 ∷ form "list" 0 ∷ []
 
 -- a line that is written in a form
 pub record WrittenIn (f : Form) (l : List ℕ) : Type 0 where
@@ -77,9 +82,9 @@ abbrev pub InNone : List Form → List ℕ → Type 0
 InNone [] l = Unit {0}
 InNone (f ∷ fs) l = (WrittenIn f l → ⊥) × InNone fs l
 
--- an unreadable line: in none of the forms
-abbrev pub Unreadable : List ℕ → Type 0
-Unreadable l = InNone forms l
+-- an unreadable line in a shift of kind k: in none of the forms
+abbrev pub Unreadable : ℕ → List ℕ → Type 0
+Unreadable k l = InNone (forms k) l
 
 -- ---- what is printed behind the line's number
 abbrev pub refusedText : ℕ → List ℕ
@@ -89,11 +94,11 @@ abbrev pub replyText : Reply → List ℕ
 replyText Accepted = bytesOf "\tok"
 replyText (Refused r) = refusedText (numberOf r)
 
--- of a turn: went on, finished (yes or no of a look-up), or idle
+-- of a turn: went on, finished (the price or no of a look-up), or idle
 abbrev pub turnText : TurnReply → List ℕ
 turnText (turn.Answered answer.WentOn) = bytesOf "\ton"
 turnText (turn.Answered answer.Finished) = bytesOf "\tdone"
-turnText (turn.Answered answer.Yes) = bytesOf "\tyes"
+turnText (turn.Answered (answer.Price q)) = numbersText (q ∷ [])
 turnText (turn.Answered answer.No) = bytesOf "\tno"
 turnText (turn.Answered answer.Idle) = bytesOf "\tidle"
 turnText (turn.Refused r) = refusedText (numberOf r)
@@ -102,7 +107,7 @@ turnText (turn.Refused r) = refusedText (numberOf r)
 abbrev pub endText : Ended → List ℕ
 endText Ended.Nothing = bytesOf "\t-"
 endText Ended.Finished = bytesOf "\tdone"
-endText Ended.Yes = bytesOf "\tyes"
+endText (Ended.Price q) = numbersText (q ∷ [])
 endText Ended.No = bytesOf "\tno"
 
 -- one field a worker: of workers 0, 1 and so on, m in all
@@ -114,9 +119,14 @@ workersText (suc m) text = workersText m text ++ text m
 abbrev pub finishText : List Finish → ℕ → List ℕ
 finishText fs w = endText (getD fs w unfinished .ended)
 
--- the count of the labels, then the labels
+-- each label followed by its price
+abbrev pub pricedText : List ℕ → List ℕ
+pricedText [] = []
+pricedText (e ∷ es) = numbersText (label e ∷ price e ∷ []) ++ pricedText es
+
+-- the count of the labels, then the labels with their prices
 abbrev pub listText : List ℕ → List ℕ
-listText ks = numbersText (length ks ∷ ks)
+listText es = numbersText (length es ∷ []) ++ pricedText es
 
 -- ---- what a line does
 abbrev pub stateWith : Phase → List ℕ → State
@@ -146,20 +156,26 @@ pub record InShut (s : State) : Type 0 where
   pub run : Does s (line "run" []) s (refusedText 11)
   pub order : (l : List ℕ) → FirstIs (bytesOf "order") l → Does s l s (refusedText 11)
   -- an unreadable line answers `bad` and ends the replay
-  pub unreadable : (l : List ℕ) → Unreadable l → (FirstIs (bytesOf "order") l → ⊥) → Bad s l
+  pub unreadable : (l : List ℕ) → Unreadable (s .phase .kind) l → (FirstIs (bytesOf "order") l → ⊥) → Bad s l
 
 -- ---- in an open shift
 pub record InOpen (s : State) : Type 0 where
   -- `cells` or `open` in an open shift answers `bad` and ends the replay, whatever follows
   pub cells : (l : List ℕ) → FirstIs (bytesOf "cells") l → Bad s l
   pub opening : (l : List ℕ) → FirstIs (bytesOf "open") l → Bad s l
-  -- `order` worker label
-  pub order : (w v : ℕ) → w ≤ greatest → v ≤ greatest → Replies s (line "order" (w ∷ v ∷ [])) (orderCall gateway (s .phase) w v)
+  -- `order` worker label price in a put-in shift
+  pub order-priced : s .phase .kind ≡ 1 → (w v cents : ℕ) → w ≤ greatest → v ≤ greatest → cents ≤ greatest
+      → Replies s (line "order" (w ∷ v ∷ cents ∷ [])) (orderCall gateway (s .phase) w v cents)
+  -- `order` worker label in the others, where the price of an order call is not read
+  pub order : s .phase .kind ≢ 1 → (w v cents : ℕ) → w ≤ greatest → v ≤ greatest → Replies s (line "order" (w ∷ v ∷ [])) (orderCall gateway (s .phase) w v cents)
+  -- another number of fields is not readable there
+  pub order-misfit : s .phase .kind ≡ 1 → (ns : List ℕ) → length ns ≢ 3 → Bad s (line "order" ns)
+  pub order-other-misfit : s .phase .kind ≢ 1 → (ns : List ℕ) → length ns ≢ 2 → Bad s (line "order" ns)
   -- `run` deals turns until all are idle, and gives one field per worker; a shift has at most 16 workers
   pub run : s .phase .crew ≤ 16
       → let d = dealing.run gateway (s .phase) (s .table) in
       Does s (line "run" []) (stateWith (d .dealt .phase) (d .table)) (workersText (s .phase .crew) (finishText (d .dealt .finishes)))
-  pub unreadable : (l : List ℕ) → Unreadable l → Bad s l
+  pub unreadable : (l : List ℕ) → Unreadable (s .phase .kind) l → Bad s l
 
 -- ---- in either
 pub record InEither (s : State) : Type 0 where
@@ -169,15 +185,15 @@ pub record InEither (s : State) : Type 0 where
       Does s (line "turn" (w ∷ [])) (stateWith (r .phase) (turnTable gateway (s .phase) (s .table) w)) (turnText (r .reply))
   -- `close`
   pub close : Replies s (line "close" []) (closeCall gateway (s .phase))
-  -- `list` gives the count, then the labels, where the check passes the table, and else the check's refusal
-  pub list : checkCall gateway (s .table) ≡ Accepted → Does s (line "list" []) s (listText (keysOf (s .table)))
+  -- `list` gives the count, then each label followed by its price, where the check passes the table, and else the check's refusal
+  pub list : checkCall gateway (s .table) ≡ Accepted → Does s (line "list" []) s (listText (entriesOf (s .table)))
   pub list-refused : (r : Refusal) → checkCall gateway (s .table) ≡ Refused r → Does s (line "list" []) s (refusedText (numberOf r))
 
 -- ---- every replay
 pub record SheetPromise : Type 0 where
   -- before `open` the shift counts as shut; before `cells` the table has length 0
   pub before-open : blank .phase .shut ≡ true
-  pub before-order : (w v : ℕ) → orderCall gateway (blank .phase) w v .reply ≡ Refused Shut
+  pub before-order : (w v cents : ℕ) → orderCall gateway (blank .phase) w v cents .reply ≡ Refused Shut
   pub before-turn : (t : List ℕ) (w : ℕ) → turnCall gateway (blank .phase) t w .reply ≡ turn.Refused Shut
   pub before-close : closeCall gateway (blank .phase) .reply ≡ Refused Shut
   pub before-cells : length (blank .table) ≡ 0
@@ -186,11 +202,14 @@ pub record SheetPromise : Type 0 where
   pub opened : (s : State) → s .phase .shut ≡ false → InOpen s
   pub either : (s : State) → InEither s
   -- a number with a leading zero, or above 4294967295, is read in no line
-  pub leading-zero : (front rest : List ℕ) (b : ℕ) → b ≢ 9 → Unreadable (front ++ (bytesOf "\t0" ++ b ∷ rest))
-  pub above : (front rest : List ℕ) (n : ℕ) → greatest < n → FirstIs (digitsOf n) rest → Unreadable (front ++ (bytesOf "\t" ++ rest))
+  pub leading-zero : (front rest : List ℕ) (k b : ℕ) → b ≢ 9 → Unreadable k (front ++ (bytesOf "\t0" ++ b ∷ rest))
+  pub above : (front rest : List ℕ) (k n : ℕ) → greatest < n → FirstIs (digitsOf n) rest → Unreadable k (front ++ (bytesOf "\t" ++ rest))
   -- lines lead to valid states only, whose open shifts have 1 to 16 workers
   pub valid-first : Valid blank
   pub valid : (s : State) → Valid s → (l : List ℕ) → Valid (answerOf s (readingOf l) .state)
   pub crew : (s : State) → Valid s → s .phase .shut ≡ false → (1 ≤ s .phase .crew) × (s .phase .crew ≤ 16)
-  -- and there a run leaves all workers idle, with `-` exactly for those idle before, else their finish
+  -- there a turn that answers a price tells the one at which the label looked up stands in the table, and where one answers no it stands at none
+  pub told : (s : State) → Valid s → s .phase .shut ≡ false → (w : ℕ) (a : Answer) → turnCall gateway (s .phase) (s .table) w .reply ≡ turn.Answered a
+      → Tells (s .phase) (s .table) w a
+  -- and a run leaves all workers idle, with `-` exactly for those idle before, else their finish
   pub ran : (s : State) → Valid s → s .phase .shut ≡ false → Runs gateway (s .phase) (s .table) (dealing.run gateway (s .phase) (s .table))

@@ -89,7 +89,7 @@ listTask s = tells s (listTold (listCall gateway (s .table) (s .table)))
 abbrev pub commanded : State → Command → List ℕ → Step
 commanded s Command.Cells ns = cellsTask s (getD ns 0 0)
 commanded s Command.Open ns = calls (s .table) (openCall gateway (getD ns 0 0) (getD ns 1 0) (s .table))
-commanded s Command.Order ns = calls (s .table) (orderCall gateway (s .phase) (getD ns 0 0) (getD ns 1 0))
+commanded s Command.Order ns = calls (s .table) (orderCall gateway (s .phase) (getD ns 0 0) (getD ns 1 0) (getD ns 2 0))
 commanded s Command.Turn ns = turnTask s (getD ns 0 0)
 commanded s Command.Run ns = runTask s
 commanded s Command.Close ns = calls (s .table) (closeCall gateway (s .phase))

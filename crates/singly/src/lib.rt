@@ -31,7 +31,7 @@ fn step_answer(answer: Answer) -> u64
     match answer {
         Answer::WentOn => WORDS + 1,
         Answer::Finished => WORDS + 2,
-        Answer::Yes => WORDS + 3,
+        Answer::Price(price) => price as u64,
         Answer::No => WORDS + 4,
         Answer::Idle => WORDS + 5,
     }
@@ -62,37 +62,45 @@ fn least(a: usize, b: usize) -> usize
     if a < b { a } else { b }
 }
 
-// As many as the shortest of four lists has.
-pub fn fewest(ops: usize, workers: usize, keys: usize, answers: usize) -> usize
-    ensures { λ r. ⌜ r ≡ min (min ops workers) (min keys answers) ⌝ }
+// As many as the shortest of five lists has.
+pub fn fewest(ops: usize, workers: usize, keys: usize, prices: usize, answers: usize) -> usize
+    ensures { λ r. ⌜ r ≡ min (min ops workers) (min (min keys prices) answers) ⌝ }
 {
-    least(least(ops, workers), least(keys, answers))
+    least(least(ops, workers), least(least(keys, prices), answers))
 }
 
-// Applies calls from a phase on, as many as the shortest of the four lists has; `answers` takes their answers' numbers. Operation 1 is an order, 2
+// Applies calls from a phase on, as many as the shortest of the five lists has; `answers` takes their answers' numbers. Operation 1 is an order, 2
 // a turn, any other a close. Each call goes by itself: the phase by value, and tested at each.
 pub fn run_singly(
     phase: Phase,
-    cells: &mut [u32],
+    cells: &mut [u64],
     ops: &[u32],
     workers: &[u32],
     keys: &[u32],
+    prices: &[u32],
     answers: &mut [u64],
 ) -> Phase
-    ensures { λ r. ⌜ RunsFrom gateway phase (now (cells .entry)) (callsLent (now (ops .entry)) (now (workers .entry)) (now (keys .entry)) (now (answers .entry)))
+    ensures { λ r. ⌜ RunsFrom gateway phase (now (cells .entry)) (callsLent (now (ops .entry)) (now (workers .entry)) (now (keys .entry)) (now (prices .entry)) (now (answers .entry)))
         (now (answers .entry)) r (now (cells .exit)) (now (answers .exit)) ⌝ }
 {
-    let all = fewest(ops.len(), workers.len(), keys.len(), answers.len());
+    let all = fewest(
+        ops.len(),
+        workers.len(),
+        keys.len(),
+        prices.len(),
+        answers.len(),
+    );
     let mut next = phase;
     let mut i: usize = 0;
     while i < all {
         let op = ops[i];
         let worker = workers[i] as usize;
         let key = keys[i];
+        let price = prices[i];
         let place = i;
         i += 1;
         if op == 1 {
-            let ordered = order(next, worker, key);
+            let ordered = order(next, worker, key, price);
             next = ordered.phase;
             let reply = ordered.reply;
             answers[place] = reply_answer(reply);

@@ -5,7 +5,7 @@ use mathlib.Core.List.{List}
 use Prim.Native.Nat.{ℕ, suc, _+_, _≤_, _<_}
 use native.Mathlib.Omega.{arith}
 use lib.Dec.{T, leb, ltb, leb→le, le→leb, ltb→lt, lt→ltb}
-use lib.ListN.{length, getD}
+use lib.ListN.{getD}
 use Rattle.ring.proofs.Ring.{Distance, dist-fact}
 use Rattle.ring.proofs.Split.{by-lt, by-eq}
 use Rattle.layout.specs.Sound.{all}
@@ -47,38 +47,38 @@ module _ (t : List ℕ) (x : ℕ) where
     between-of f = among-of suc (λ _. a) greaterAt b (λ c l g. f c (omega arith) l)
 
   -- ---- the path to cell j in stretches
-  module _ (rule : ℕ → ℕ) (home : ℕ) (is : home ≡ rule x) (below : rule x < length t) (j : ℕ) (jn : j < length t) where
-    away : (c : ℕ) → c < length t → Distance (length t) (rule x) c
-    away c cn = dist-fact (length t) (rule x) c below cn
+  module _ (n : ℕ) (rule : ℕ → ℕ) (home : ℕ) (is : home ≡ rule x) (below : rule x < n) (j : ℕ) (jn : j < n) where
+    away : (c : ℕ) → c < n → Distance n (rule x) c
+    away c cn = dist-fact n (rule x) c below cn
 
-    clear-at : T (clearTo rule t x j) → (c : ℕ) → c < length t → steps rule t x c < steps rule t x j → T (greaterAt c)
+    clear-at : T (clearTo n rule t x j) → (c : ℕ) → c < n → steps n rule x c < steps n rule x j → T (greaterAt c)
     unfolding clearTo
-    clear-at = among-at (λ _. steps rule t x j) (steps rule t x) greaterAt (length t)
+    clear-at = among-at (λ _. steps n rule x j) (steps n rule x) greaterAt n
 
-    clear-of : ((c : ℕ) → c < length t → steps rule t x c < steps rule t x j → T (greaterAt c)) → T (clearTo rule t x j)
+    clear-of : ((c : ℕ) → c < n → steps n rule x c < steps n rule x j → T (greaterAt c)) → T (clearTo n rule t x j)
     unfolding clearTo
-    clear-of = among-of (λ _. steps rule t x j) (steps rule t x) greaterAt (length t)
+    clear-of = among-of (λ _. steps n rule x j) (steps n rule x) greaterAt n
 
-    pub straight-clear : home ≤ j → greaterBetween t x home j ≡ clearTo rule t x j
+    pub straight-clear : home ≤ j → greaterBetween t x home j ≡ clearTo n rule t x j
     straight-clear l = same-value _ _
         (λ h. clear-of (λ c cn s. between-at home j h c (omega (arith, away c cn, away j jn)) (omega (arith, away c cn, away j jn))))
-        (λ h. between-of home j (λ c a b. let cn : c < length t = omega arith in clear-at h c cn (omega (arith, away c cn, away j jn))))
+        (λ h. between-of home j (λ c a b. let cn : c < n = omega arith in clear-at h c cn (omega (arith, away c cn, away j jn))))
 
     -- a path that wraps goes to the table's end and on from cell 0; r is what the test of the first stretch gave
     abbrev to-end : Bool
-    to-end = greaterBetween t x home (length t)
+    to-end = greaterBetween t x home n
 
     abbrev from-start : Bool
     from-start = greaterBetween t x 0 j
 
-    pub wrapped-clear : {r : Bool} → j < home → to-end ≡ r → (r && from-start) ≡ clearTo rule t x j
+    pub wrapped-clear : {r : Bool} → j < home → to-end ≡ r → (r && from-start) ≡ clearTo n rule t x j
     wrapped-clear l e = rw (← e) (same-value (to-end && from-start) _
         (λ h. clear-of (λ c cn s. by-lt c home
         (λ a. between-at 0 j (and-right to-end _ h) c (omega arith) (omega (arith, away c cn, away j jn)))
-        (λ a. between-at home (length t) (and-left to-end _ h) c a cn)))
+        (λ a. between-at home n (and-left to-end _ h) c a cn)))
         (λ h. and-of to-end from-start
-        (between-of home (length t) (λ c a cn. clear-at h c cn (omega (arith, away c cn, away j jn))))
-        (between-of 0 j (λ c _ b. let cn : c < length t = omega arith in clear-at h c cn (omega (arith, away c cn, away j jn))))))
+        (between-of home n (λ c a cn. clear-at h c cn (omega (arith, away c cn, away j jn))))
+        (between-of 0 j (λ c _ b. let cn : c < n = omega arith in clear-at h c cn (omega (arith, away c cn, away j jn))))))
 
 -- ---- the loop over a stretch: it has come to cell i, and every cell behind it holds a greater key
 pub record Read (t : List ℕ) (x a i : ℕ) : Type 0 where

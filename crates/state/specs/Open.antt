@@ -3,7 +3,7 @@ use mathlib.Core.Bool.{Bool, true, false}
 use mathlib.Core.List.{List, [], _∷_, _++_}
 use Prim.Native.Nat.{ℕ}
 use lib.ListN.{length, replicate}
-use Rattle.layout.specs.Sound.{isSound}
+use Rattle.prices.specs.Contents.{isSoundTable}
 use Rattle.activities.specs.Activities.{idle}
 use Rattle.activities.specs.Kinds.{kindOk, allowance}
 use Rattle.state.specs.Model.{Model, sizeOk, crewOk}
@@ -28,7 +28,7 @@ module _ (M : Model) where
   sizeBars t = unless (sizeOk M (length t)) Size ∷ []
 
   abbrev pub soundBars : List ℕ → List Bar
-  soundBars t = unless (isSound (length t) (M .home (length t)) t) Unsound ∷ []
+  soundBars t = unless (isSoundTable (length t) (M .home (length t)) t) Unsound ∷ []
 
   module _ (k m : ℕ) (t : List ℕ) where
     -- refusals 1, 2, 3 and 4, in that order

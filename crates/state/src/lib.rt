@@ -11,7 +11,7 @@ ghost use Rattle.activities.specs.Kinds.{kindOk, allowance};
 ghost use Rattle.state.specs.Open.{fresh, refusedPhase, openCall};
 ghost use Rattle.state.specs.Refusals.{numberOf};
 
-// Why a call is refused: the words of document 01's table, in its order.
+// Why a call is refused: the words of document 01's table, in its order, then the numbers of document 02.
 pub enum Refusal {
     Size,
     Crew,
@@ -26,10 +26,11 @@ pub enum Refusal {
     Shut,
     ShortList,
     Spoilt,
+    WrongPrice,
 }
 
 impl Refusal {
-    // Its number in document 01's table.
+    // Its number in the documents.
     pub fn number(self) -> u32
         ensures { λ r. ⌜ r ≡ numberOf self ⌝ }
     {
@@ -47,6 +48,7 @@ impl Refusal {
             Refusal::Shut => 11,
             Refusal::ShortList => 12,
             Refusal::Spoilt => 13,
+            Refusal::WrongPrice => 14,
         }
     }
 }
@@ -141,7 +143,7 @@ impl Phase {
     }
 
     // The insert operations that a phase on these cells takes.
-    fn allowance(kind: u64, cells: &[u32]) -> u32
+    fn allowance(kind: u64, cells: &[u64]) -> u32
         requires { ⌜ length (now cells) ≤ gateway .mostCells ⌝ }
         ensures { λ r. ⌜ r ≡ allowance kind (now (cells .entry)) ⌝ }
     {
@@ -157,7 +159,7 @@ impl Phase {
     }
 
     // Opens a phase of a kind, with a crew of so many workers, on a table.
-    pub fn open(kind: u64, crew: u64, cells: &[u32]) -> Replied
+    pub fn open(kind: u64, crew: u64, cells: &[u64]) -> Replied
         ensures { λ r. ⌜ r ≡ openCall gateway kind crew (now (cells .entry)) ⌝ }
     {
         if !Self::size_ok(cells.len()) {

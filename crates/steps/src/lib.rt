@@ -3,12 +3,13 @@ use activities::Activity;
 use rule::Outcome;
 ghost use mathlib.Core.Path.{_≡_};
 ghost use Rattle.layout.specs.Home.{modulo};
+ghost use Rattle.prices.specs.Contents.{label};
 ghost use Rattle.activities.specs.Activities.{cellsOf, Below};
 ghost use Rattle.rule.specs.Rule.{rule};
 
-pub fn step(kind: u32, length: u32, activity: Activity, content: u32) -> Outcome
+pub fn step(kind: u32, length: u32, activity: Activity, content: u64) -> Outcome
     requires { ⌜ Below length (cellsOf activity) ⌝ }
-    ensures { λ r. ⌜ r ≡ rule kind length (modulo length) activity content ⌝ }
+    ensures { λ r. ⌜ r ≡ rule kind length label (modulo length) activity content ⌝ }
 {
     if kind == 1 {
         return probing::insert_step(length, activity, content);

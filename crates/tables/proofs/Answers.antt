@@ -8,8 +8,8 @@ use lib.Dec.{ltb}
 use lib.ListN.{length, take, drop}
 use lib.Seq.{take-at}
 use borrow.Author.Tests.{lt-ltb, le-ltb, le-leb, lt-leb}
-use Rattle.layout.specs.Sound.{isSound}
-use Rattle.words.specs.Words.{occupied, keysOf, filled, countOf, listedIn}
+use Rattle.prices.specs.Contents.{isSoundTable}
+use Rattle.words.specs.Words.{occupied, entriesOf, filled, countOf, listedIn}
 use Rattle.words.proofs.Theorem.{theorem}
 use Rattle.state.specs.Model.{Model, sizeOk}
 use Rattle.state.specs.Refusals.{Bar, if, firstOf}
@@ -30,10 +30,10 @@ module _ (M : Model) (t : List ℕ) where
   pub size-refused : sizeOk M (length t) ≡ false → checkCall M t ≡ Refused Size
   size-refused e = rw e
 
-  pub unsound-refused : sizeOk M (length t) ≡ true → isSound (length t) (M .home (length t)) t ≡ false → checkCall M t ≡ Refused Unsound
+  pub unsound-refused : sizeOk M (length t) ≡ true → isSoundTable (length t) (M .home (length t)) t ≡ false → checkCall M t ≡ Refused Unsound
   unsound-refused e s = rw (e, s)
 
-  pub sound-accepted : sizeOk M (length t) ≡ true → isSound (length t) (M .home (length t)) t ≡ true → checkCall M t ≡ Accepted
+  pub sound-accepted : sizeOk M (length t) ≡ true → isSoundTable (length t) (M .home (length t)) t ≡ true → checkCall M t ≡ Accepted
   sound-accepted e s = rw (e, s)
 
   pub count-by : (r : Reply) → checkCall M t ≡ r → countCall M t ≡ countedBy (countOf t) r
@@ -45,8 +45,8 @@ module _ (M : Model) (t : List ℕ) where
       pub listed-as : (l : List ℕ) → l ≡ ifCounted a (filled t out) out → (a ≡ listCall M t out) × (l ≡ listAfter M t out)
       listed-as l f = (sym e, f ∙ sym (ap (λ (a : Counted). ifCounted a (filled t out) out) e))
 
-      pub front-as : listFront M t out ≡ ifCounted a (keysOf t) []
-      front-as = ap (λ (a : Counted). ifCounted a (keysOf t) []) e
+      pub front-as : listFront M t out ≡ ifCounted a (entriesOf t) []
+      front-as = ap (λ (a : Counted). ifCounted a (entriesOf t) []) e
 
     -- the check's refusals come first; where it accepts, the room decides
     pub list-by : (r : Reply) → checkCall M t ≡ r
@@ -55,7 +55,7 @@ module _ (M : Model) (t : List ℕ) where
         let room : List Bar = if (ltb (length out) (countOf t)) ShortList ∷ [] in
         ap (countedBy (countOf t)) (first-append (tableBars M t) room ∙ ap (λ (a : Reply). orElse a (firstOf room)) e)
 
-    -- ---- after `list_keys` gave the count c and left the list l
+    -- ---- after `list_entries` gave the count c and left the list l
     module _ (ok : checkCall M t ≡ Accepted) (c : ℕ) (l : List ℕ) (count : c ≡ countOf t) (left : l ≡ listedIn t out) where
       pub short : length out < c → (counted.Refused ShortList ≡ listCall M t out) × (l ≡ listAfter M t out)
       short h =
@@ -67,14 +67,14 @@ module _ (M : Model) (t : List ℕ) where
           let h′ : countOf t ≤ length out = omega arith in
           listed-as (counted.Keys c) (list-by Accepted ok ∙ rw (le-ltb (length out) (countOf t) h′, count)) l (left ∙ rw (le-leb (countOf t) (length out) h′))
 
-    -- ---- where the list call gave the count c and left the list l, its first c places are the keys
+    -- ---- where the list call gave the count c and left the list l, its first c places are the entries
     module _ (c : ℕ) (l : List ℕ) (e : listCall M t out ≡ counted.Keys c) (left : l ≡ listAfter M t out) where
-      counts : c ≡ length (keysOf t)
+      counts : c ≡ length (entriesOf t)
       counts = is-count (firstOf (listBars M t out)) (countOf t) c e ∙ theorem t .count ∙ sym (theorem t .long)
 
       pub front : take c l ≡ listFront M t out
       front =
-          ap (take c) (left ∙ ap (λ (a : Counted). ifCounted a (filled t out) out) e) ∙ take-at (keysOf t) (drop (occupied t) out) c (sym counts) ∙ sym (front-as (counted.Keys c) e)
+          ap (take c) (left ∙ ap (λ (a : Counted). ifCounted a (filled t out) out) e) ∙ take-at (entriesOf t) (drop (occupied t) out) c (sym counts) ∙ sym (front-as (counted.Keys c) e)
 
       pub front-length : c ≡ length (take c l)
       front-length = counts ∙ sym (ap length (front ∙ front-as (counted.Keys c) e))

@@ -10,7 +10,9 @@ use borrow.Author.Tests.{ltb-true, ltb-false, le-ltb}
 use Rattle.ring.proofs.Split.{by-eq}
 use Rattle.ring.proofs.Tests.{within-says}
 use Rattle.layout.specs.Layout.{size}
-use Rattle.words.specs.Words.{keysOf, filled, countOf}
+use Rattle.prices.specs.Contents.{label}
+use Rattle.prices.specs.Priced.{labels}
+use Rattle.words.specs.Words.{entriesOf, filled, countOf}
 use Rattle.words.specs.Promise.{InCellOrder, keysBefore}
 use Rattle.words.proofs.Order.{filled-in-order, filled-behind, length-filled}
 use Rattle.words.proofs.Theorem.{theorem as listing}
@@ -20,8 +22,9 @@ use Rattle.state.specs.declared.Refusal.the-variants.{ShortList}
 use Rattle.state.specs.declared.Reply.{Reply}
 use Rattle.state.specs.declared.Reply.the-variants.{Accepted, Refused}
 use Rattle.protocol.specs.Cases.{Decides}
-use Rattle.protocol.proofs.Calls.{sound-says, sizeSteps, soundSteps}
+use Rattle.protocol.proofs.Calls.{sizeSteps, soundSteps}
 use Rattle.protocol.proofs.Chain.{Step, casesOf, decides}
+use Rattle.protocol.proofs.Soundness.{sounds, sound-says}
 use Rattle.tables.specs.declared.Counted.{Counted}
 use Rattle.tables.specs.declared.Counted.the-variants as counted
 use Rattle.tables.specs.Calls.{countNumber, countValue, countedBy, ifCounted, checkCall, countCall, listBars, listCall, listAfter, listFront}
@@ -38,12 +41,12 @@ kept (counted.Refused r) x y h = refl
 
 module _ (M : Model) (proper : Proper M) (t : List ℕ) where
   -- a table that the check accepts has as many ones as keys
-  counts : Usable M t → countOf t ≡ size t
-  counts (sized, sound) = listing t .number (length t) (M .home (length t)) (λ x. proper .homes (length t) x (omega (arith, proper .some))) sound
+  counts : Usable M t → countOf t ≡ size (labels label t)
+  counts (sized, sound) = listing t .number (length t) (M .home (length t)) (λ x. proper .homes (length t) x (omega (arith, proper .some))) (sounds M t .1 sound .paths)
 
-  count-true : Usable M t → countValue (countCall M t) ≡ size t
+  count-true : Usable M t → countValue (countCall M t) ≡ size (labels label t)
   count-true (sized, sound) =
-      let e : checkCall M t ≡ Accepted = rw (within-says _ _ _ .1 sized, sound-says _ _ _ .1 sound) in
+      let e : checkCall M t ≡ Accepted = rw (within-says _ _ _ .1 sized, sound-says M t .1 sound) in
       ap (λ (r : Reply). countValue (countedBy (countOf t) r)) e ∙ counts (sized, sound)
 
   module _ (out : List ℕ) where
@@ -93,9 +96,9 @@ module _ (M : Model) (proper : Proper M) (t : List ℕ) where
       full =
           let (_, (_, (_, none))) = by-tests in
           let (((_, sized), sound), l) = none .0 z in
-          rw (within-says _ _ _ .1 sized, sound-says _ _ _ .1 sound, le-ltb (length out) (countOf t) l)
+          rw (within-says _ _ _ .1 sized, sound-says M t .1 sound, le-ltb (length out) (countOf t) l)
 
-      is-size : countOf t ≡ size t
+      is-size : countOf t ≡ size (labels label t)
       is-size = let (_, (_, (_, none))) = by-tests in let (b, _) = none .0 z in counts (b .0 .1, b .1)
 
       room : countOf t ≤ length out
@@ -107,17 +110,17 @@ module _ (M : Model) (proper : Proper M) (t : List ℕ) where
       listed : InCellOrder t (listAfter M t out)
       listed i key = ap (λ (l : List ℕ). getD l (keysBefore t i) 0) after-filled ∙ filled-in-order t out i key
 
-      behind : (j : ℕ) → size t ≤ j → getD (listAfter M t out) j 0 ≡ getD out j 0
+      behind : (j : ℕ) → size (labels label t) ≤ j → getD (listAfter M t out) j 0 ≡ getD out j 0
       behind j h = ap (λ (l : List ℕ). getD l j 0) after-filled ∙ filled-behind t out j (omega (arith, is-size, listing t .count))
 
-      front-keys : listFront M t out ≡ keysOf t
-      front-keys = ap (λ (a : Counted). ifCounted a (keysOf t) []) full
+      front-entries : listFront M t out ≡ entriesOf t
+      front-entries = ap (λ (a : Counted). ifCounted a (entriesOf t) []) full
 
       front : InCellOrder t (listFront M t out)
-      front i key = ap (λ (l : List ℕ). getD l (keysBefore t i) 0) front-keys ∙ listing t .listed i key
+      front i key = ap (λ (l : List ℕ). getD l (keysBefore t i) 0) front-entries ∙ listing t .listed i key
 
-      front-long : length (listFront M t out) ≡ size t
-      front-long = ap length front-keys ∙ listing t .long ∙ sym (listing t .count) ∙ is-size
+      front-long : length (listFront M t out) ≡ size (labels label t)
+      front-long = ap length front-entries ∙ listing t .long ∙ sym (listing t .count) ∙ is-size
 
     unlisted : number ≢ 0 → listAfter M t out ≡ out
     unlisted = kept (listCall M t out) (filled t out) out
@@ -139,7 +142,7 @@ module _ (M : Model) (proper : Proper M) (t : List ℕ) where
           unlisted = unlisted;
           front = front;
           front-long = front-long;
-          no-front = kept (listCall M t out) (keysOf t) [];
+          no-front = kept (listCall M t out) (entriesOf t) [];
         }
 
 pub theorem : AtRestPromise

@@ -3,7 +3,7 @@ use mathlib.Core.List.{List, [], _∷_, _++_}
 use Prim.Native.Nat.{ℕ}
 use lib.Dec.{ltb}
 use lib.ListN.{length}
-use Rattle.words.specs.Words.{keysOf, filled, countOf}
+use Rattle.words.specs.Words.{entriesOf, filled, countOf}
 use Rattle.state.specs.Model.{Model}
 use Rattle.state.specs.Open.{sizeBars, soundBars}
 use Rattle.state.specs.Refusals.{numberOf, Bar, if, firstOf}
@@ -13,7 +13,7 @@ use Rattle.state.specs.declared.Reply.the-variants.{Accepted, Refused}
 use Rattle.tables.specs.declared.Counted.{Counted}
 use Rattle.tables.specs.declared.Counted.the-variants as counted
 
--- ---- document 01's number of a count's answer, 0 where the call is not refused, and the value that it gives
+-- ---- the documents' number of a count's answer, 0 where the call is not refused, and the value that it gives
 abbrev pub countNumber : Counted → ℕ
 countNumber (counted.Keys c) = 0
 countNumber (counted.Refused r) = numberOf r
@@ -53,10 +53,10 @@ module _ (M : Model) (t : List ℕ) where
     abbrev pub listCall : Counted
     listCall = countedBy (countOf t) (firstOf listBars)
 
-    -- the lent list afterwards: the keys in cell order at its front, or as it was
+    -- the lent list afterwards: the entries in cell order at its front, or as it was
     abbrev pub listAfter : List ℕ
     listAfter = ifCounted listCall (filled t out) out
 
     -- the filled front part, empty where listing is refused
     abbrev pub listFront : List ℕ
-    listFront = ifCounted listCall (keysOf t) []
+    listFront = ifCounted listCall (entriesOf t) []

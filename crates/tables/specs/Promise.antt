@@ -5,18 +5,20 @@ use mathlib.Core.List.{List, [], _∷_, _++_}
 use Prim.Native.Nat.{ℕ, _≤_, _<_}
 use lib.ListN.{length, getD}
 use Rattle.layout.specs.Layout.{size}
+use Rattle.prices.specs.Contents.{label}
+use Rattle.prices.specs.Priced.{labels}
 use Rattle.words.specs.Promise.{InCellOrder}
 use Rattle.state.specs.Model.{Model, Proper}
 use Rattle.state.specs.Refusals.{replyNumber}
 use Rattle.protocol.specs.Cases.{Case, case, Decides}
-use Rattle.protocol.specs.Promise.{SoundTable, sizeCases, soundCases}
+use Rattle.protocol.specs.Promise.{Soundness, sizeCases, soundCases}
 use Rattle.protocol.specs.WellFormed.{Size}
 use Rattle.tables.specs.Calls.{countNumber, countValue, checkCall, countCall, listCall, listAfter, listFront}
 
 module _ (M : Model) (t : List ℕ) where
   -- a table that every call accepts
   abbrev pub Usable : Type 0
-  Usable = Size M (length t) × SoundTable M t
+  Usable = Size M (length t) × Soundness M t
 
   abbrev pub checkCases : List Case
   checkCases = sizeCases M t ++ soundCases M t
@@ -24,24 +26,25 @@ module _ (M : Model) (t : List ℕ) where
   module _ (out : List ℕ) where
     -- the check's, then a lent list with fewer places than the table has keys
     abbrev pub listCases : List Case
-    listCases = checkCases ++ case 12 (size t ≤ length out) (length out < size t) ∷ []
+    listCases = checkCases ++ case 12 (size (labels label t) ≤ length out) (length out < size (labels label t)) ∷ []
 
     pub record AtRest : Type 0 where
       -- the check passes the sound tables and no others
       pub check : Decides (replyNumber (checkCall M t)) checkCases
       -- count is refused as the check is, and otherwise says how many keys the table has
       pub count-refused : countNumber (countCall M t) ≡ replyNumber (checkCall M t)
-      pub count-true : Usable → countValue (countCall M t) ≡ size t
+      pub count-true : Usable → countValue (countCall M t) ≡ size (labels label t)
       pub list : Decides (countNumber (listCall M t out)) listCases
-      -- it says how many keys the table has, lists them in cell order, and what stands behind them is kept; a refusal changes nothing
-      pub list-true : countNumber (listCall M t out) ≡ 0 → countValue (listCall M t out) ≡ size t
+      -- it says how many keys the table has, lists the cells that hold them, whole and in cell order, and what stands behind those is kept; a refusal
+      -- changes nothing
+      pub list-true : countNumber (listCall M t out) ≡ 0 → countValue (listCall M t out) ≡ size (labels label t)
       pub listed : countNumber (listCall M t out) ≡ 0 → InCellOrder t (listAfter M t out)
-      pub behind : countNumber (listCall M t out) ≡ 0 → (j : ℕ) → size t ≤ j → getD (listAfter M t out) j 0 ≡ getD out j 0
+      pub behind : countNumber (listCall M t out) ≡ 0 → (j : ℕ) → size (labels label t) ≤ j → getD (listAfter M t out) j 0 ≡ getD out j 0
       pub long : length (listAfter M t out) ≡ length out
       pub unlisted : countNumber (listCall M t out) ≢ 0 → listAfter M t out ≡ out
-      -- the front part is the keys in cell order and nothing more, and empty where listing is refused
+      -- the front part is these cells in cell order and nothing more, and empty where listing is refused
       pub front : countNumber (listCall M t out) ≡ 0 → InCellOrder t (listFront M t out)
-      pub front-long : countNumber (listCall M t out) ≡ 0 → length (listFront M t out) ≡ size t
+      pub front-long : countNumber (listCall M t out) ≡ 0 → length (listFront M t out) ≡ size (labels label t)
       pub no-front : countNumber (listCall M t out) ≢ 0 → listFront M t out ≡ []
 
 abbrev pub AtRestPromise : Type 0

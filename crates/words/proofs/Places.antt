@@ -1,4 +1,4 @@
--- Groups and their places in the list: as many keys as stand in the cells before the group.
+-- Groups and their places in the list: as many as there are labels in the cells before the group.
 use mathlib.Core.Path.{_≡_, refl, _∙_, ap}
 use mathlib.Core.List.{List, _++_}
 use Prim.Native.Nat.{ℕ, zero, suc, _+_, _*_, _≤_, _<_}

@@ -8,12 +8,14 @@ use lib.ListN.{length}
 use lib.Pow.{pow-mono}
 use lib.Seq.{take-all}
 use Rattle.layout.proofs.Theorem as layout
+use Rattle.prices.specs.Contents.{label}
+use Rattle.prices.specs.Priced.{labels}
 use Rattle.words.specs.Words.{occupied, group}
 use Rattle.words.specs.Promise.{keysBefore, ListingPromise}
 use Rattle.words.proofs.Number.{once-size}
 use Rattle.words.proofs.Order.{group-writes, group-skips, any-order}
 use Rattle.words.proofs.Places.{group-length, group-cell, place-is, count-occupied}
-use Rattle.words.proofs.Words.{word-lt, word-bit, length-keys, occupied-counts, vacant-occupied, key-in-place}
+use Rattle.words.proofs.Words.{word-lt, word-bit, length-entries, occupied-counts, vacant-occupied, entry-in-place}
 
 occupied-before : (t : List ℕ) → occupied t ≡ keysBefore t (length t)
 occupied-before t = let h : length t ≤ length t = omega arith in occupied-counts t ∙ rw (take-all (length t) t h)
@@ -28,11 +30,11 @@ theorem t =
       words-fit = λ g. omega (arith, word-lt (group t g), pow-mono (group-length t g));
       place = λ g. place-is t g ∙ occupied-counts _;
       count = count-occupied t;
-      long = length-keys t;
+      long = length-entries t;
       keys = occupied-before t;
       empty = vacant-occupied t;
-      number = λ n home hb s. count-occupied t ∙ once-size t (rw (s .sized) (layout.theorem n home hb .once t s));
-      listed = key-in-place t;
+      number = λ n home hb s. count-occupied t ∙ once-size t (rw (s .sized) (layout.theorem n home hb .once (labels label t) s));
+      listed = entry-in-place t;
       group-fills = group-writes t;
       group-keeps = group-skips t;
       any-order = any-order t;

@@ -1,4 +1,4 @@
--- Laws of occupancy words, and of the keys of a list of cells.
+-- Laws of occupancy words, and of the entries of a list of cells.
 use mathlib.Core.Path.{_≡_, refl, _∙_, ap}
 use mathlib.Core.Bool.{Bool, true, false, not, cond}
 use mathlib.Core.List.{List, [], _∷_, _++_}
@@ -13,11 +13,13 @@ use lib.Pow.{shr-le, shr-shr}
 use borrow.Author.Tests.{ne-eqb}
 use Rattle.ring.specs.Counting.{bit, count}
 use Rattle.layout.specs.Sound.{vacant}
-use Rattle.words.specs.Words.{taken, occupied, keysOf, wordOf}
+use Rattle.prices.specs.Contents.{label}
+use Rattle.prices.specs.Priced.{labels}
+use Rattle.words.specs.Words.{taken, occupied, entriesOf, wordOf}
 use Rattle.words.specs.Promise.{holdsKey, keysBefore, InCellOrder}
 
 pub taken-le : (x : ℕ) → taken x ≤ 1
-taken-le x = go (eqb x 0)
+taken-le x = go (eqb (label x) 0)
   where
     go : (b : Bool) → cond b 0 1 ≤ 1
     go true = omega arith
@@ -46,27 +48,27 @@ word-bit [] b = omega (arith, shr-le 0 b)
 word-bit (x ∷ xs) zero = omega (arith, taken-le x)
 word-bit (x ∷ xs) (suc b) = rw (← one-add b, ← shr-shr (wordOf (x ∷ xs)) 1 b, word-high x xs) (word-bit xs b)
 
--- ---- keys counted, and each in its place
+-- ---- labels counted, and each entry in its place
 pub occupied-counts : (xs : List ℕ) → occupied xs ≡ count holdsKey xs
 unfolding count
 occupied-counts [] = refl
-occupied-counts (x ∷ xs) = go (occupied-counts xs) (eqb x 0)
+occupied-counts (x ∷ xs) = go (occupied-counts xs) (eqb (label x) 0)
   where
     go : occupied xs ≡ count holdsKey xs → (b : Bool) → cond b 0 1 + occupied xs ≡ bit (not b) + count holdsKey xs
     go e true = omega arith
     go e false = omega arith
 
-pub key-in-place : (t : List ℕ) → InCellOrder t (keysOf t)
+pub entry-in-place : (t : List ℕ) → InCellOrder t (entriesOf t)
 unfolding count
-key-in-place [] i key = absurd (key refl)
-key-in-place (x ∷ t) zero key = rw (ne-eqb x 0 key)
-key-in-place (x ∷ t) (suc i) key = go (key-in-place t i key) (eqb x 0)
+entry-in-place [] i key = absurd (key refl)
+entry-in-place (x ∷ t) zero key = rw (ne-eqb (label x) 0 key)
+entry-in-place (x ∷ t) (suc i) key = go (entry-in-place t i key) (eqb (label x) 0)
   where
-    go : getD (keysOf t) (keysBefore t i) 0 ≡ getD t i 0 → (b : Bool) → getD (cond b (keysOf t) (x ∷ keysOf t)) (bit (not b) + keysBefore t i) 0 ≡ getD t i 0
+    go : getD (entriesOf t) (keysBefore t i) 0 ≡ getD t i 0 → (b : Bool) → getD (cond b (entriesOf t) (x ∷ entriesOf t)) (bit (not b) + keysBefore t i) 0 ≡ getD t i 0
     go e true = rw zero-add e
     go e false = rw one-add e
 
--- ---- keys of lists joined, and how many
+-- ---- entries of lists joined, and how many
 pub occupied-append : (xs ys : List ℕ) → occupied (xs ++ ys) ≡ occupied xs + occupied ys
 occupied-append [] ys = omega arith
 occupied-append (x ∷ xs) ys = omega (arith, occupied-append xs ys)
@@ -75,28 +77,28 @@ pub occupied-le : (xs : List ℕ) → occupied xs ≤ length xs
 occupied-le [] = omega arith
 occupied-le (x ∷ xs) = omega (arith, taken-le x, occupied-le xs)
 
--- each cell is empty or holds a key
+-- each cell holds a label or none
 one-of-two : (b : Bool) → bit b + cond b 0 1 ≡ 1
 one-of-two true = refl
 one-of-two false = refl
 
-pub vacant-occupied : (t : List ℕ) → vacant t + occupied t ≡ length t
+pub vacant-occupied : (t : List ℕ) → vacant (labels label t) + occupied t ≡ length t
 unfolding count
 vacant-occupied [] = refl
-vacant-occupied (x ∷ xs) = omega (arith, one-of-two (eqb x 0), vacant-occupied xs)
+vacant-occupied (x ∷ xs) = omega (arith, one-of-two (eqb (label x) 0), vacant-occupied xs)
 
-pub keys-append : (xs ys : List ℕ) → keysOf (xs ++ ys) ≡ keysOf xs ++ keysOf ys
-keys-append [] ys = refl
-keys-append (x ∷ xs) ys = go (keys-append xs ys) (eqb x 0)
+pub entries-append : (xs ys : List ℕ) → entriesOf (xs ++ ys) ≡ entriesOf xs ++ entriesOf ys
+entries-append [] ys = refl
+entries-append (x ∷ xs) ys = go (entries-append xs ys) (eqb (label x) 0)
   where
-    go : keysOf (xs ++ ys) ≡ keysOf xs ++ keysOf ys → (b : Bool) → cond b (keysOf (xs ++ ys)) (x ∷ keysOf (xs ++ ys)) ≡ cond b (keysOf xs) (x ∷ keysOf xs) ++ keysOf ys
+    go : entriesOf (xs ++ ys) ≡ entriesOf xs ++ entriesOf ys → (b : Bool) → cond b (entriesOf (xs ++ ys)) (x ∷ entriesOf (xs ++ ys)) ≡ cond b (entriesOf xs) (x ∷ entriesOf xs) ++ entriesOf ys
     go e true = e
     go e false = ap (λ (l : List ℕ). x ∷ l) e
 
-pub length-keys : (xs : List ℕ) → length (keysOf xs) ≡ occupied xs
-length-keys [] = refl
-length-keys (x ∷ xs) = go (length-keys xs) (eqb x 0)
+pub length-entries : (xs : List ℕ) → length (entriesOf xs) ≡ occupied xs
+length-entries [] = refl
+length-entries (x ∷ xs) = go (length-entries xs) (eqb (label x) 0)
   where
-    go : length (keysOf xs) ≡ occupied xs → (b : Bool) → length (cond b (keysOf xs) (x ∷ keysOf xs)) ≡ cond b 0 1 + occupied xs
+    go : length (entriesOf xs) ≡ occupied xs → (b : Bool) → length (cond b (entriesOf xs) (x ∷ entriesOf xs)) ≡ cond b 0 1 + occupied xs
     go e true = omega arith
     go e false = omega arith

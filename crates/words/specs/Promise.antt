@@ -9,42 +9,44 @@ use lib.ListN.{length, getD, take}
 use Rattle.ring.specs.Counting.{count}
 use Rattle.layout.specs.Layout.{In, size}
 use Rattle.layout.specs.Sound.{Sound, vacant}
-use Rattle.words.specs.Words.{occupied, keysOf, filled, groups, group, wordOf, placeOf, countOf, groupListed, groupsListed}
+use Rattle.prices.specs.Contents.{label}
+use Rattle.prices.specs.Priced.{labels}
+use Rattle.words.specs.Words.{occupied, entriesOf, filled, groups, group, wordOf, placeOf, countOf, groupListed, groupsListed}
 
--- a cell that holds a key
+-- a cell that holds a label
 abbrev pub holdsKey : ℕ → Bool
-holdsKey x = not (eqb x 0)
+holdsKey x = not (eqb (label x) 0)
 
--- how many of the cells before cell i hold a key
+-- how many of the cells before cell i hold a label
 abbrev pub keysBefore : List ℕ → ℕ → ℕ
 keysBefore t i = count holdsKey (take i t)
 
--- the front of a list l has the keys of t in cell order from cell 0: each stands after as many as there are keys in the cells before its own
+-- the front of a list l has the entries of t in cell order from cell 0: each stands there whole, after as many as there are labels in the cells before its own
 abbrev pub InCellOrder : List ℕ → List ℕ → Type 0
-InCellOrder t l = (i : ℕ) → getD t i 0 ≢ 0 → getD l (keysBefore t i) 0 ≡ getD t i 0
+InCellOrder t l = (i : ℕ) → label (getD t i 0) ≢ 0 → getD l (keysBefore t i) 0 ≡ getD t i 0
 
 pub record Listing (t : List ℕ) : Type 0 where
   -- cell b of group g is cell 64 g + b of the table
   pub cells : (g b : ℕ) → b < 64 → getD (group t g) b 0 ≡ getD t (64 * g + b) 0
-  -- bit b of a group's word is 1 if cell b of the group holds a key, else 0; past the table it is 0 (getD gives 0 there)
-  pub ones : (g b : ℕ) → getD (group t g) b 0 ≢ 0 → (wordOf (group t g) / 2 ^ b) % 2 ≡ 1
-  pub zeros : (g b : ℕ) → getD (group t g) b 0 ≡ 0 → (wordOf (group t g) / 2 ^ b) % 2 ≡ 0
+  -- bit b of a group's word is 1 if cell b of the group holds a label, else 0; past the table it is 0 (getD gives 0 there)
+  pub ones : (g b : ℕ) → label (getD (group t g) b 0) ≢ 0 → (wordOf (group t g) / 2 ^ b) % 2 ≡ 1
+  pub zeros : (g b : ℕ) → label (getD (group t g) b 0) ≡ 0 → (wordOf (group t g) / 2 ^ b) % 2 ≡ 0
   -- there is a group for each 64 cells, the last for what is left
   pub as-many : (g : ℕ) → g < groups t ↔ (64 * g < length t)
   pub words-fit : (g : ℕ) → wordOf (group t g) < 2 ^ 64
-  -- as many ones as stand in the words before group g are as many as there are keys in the cells before it
+  -- as many ones as stand in the words before group g are as many as there are labels in the cells before it
   pub place : (g : ℕ) → placeOf t g ≡ keysBefore t (64 * g)
-  -- the sum of the ones is the number of cells that hold a key, and the length of the list
+  -- the sum of the ones is the number of cells that hold a label, and the length of the list
   pub count : countOf t ≡ occupied t
-  pub long : length (keysOf t) ≡ occupied t
+  pub long : length (entriesOf t) ≡ occupied t
   pub keys : occupied t ≡ keysBefore t (length t)
-  -- the other cells are empty
-  pub empty : vacant t + occupied t ≡ length t
-  -- in a sound table it is the number of keys
-  pub number : (n : ℕ) (home : ℕ → ℕ) → ((x : ℕ) → home x < n) → Sound n home t → countOf t ≡ size t
-  pub listed : InCellOrder t (keysOf t)
+  -- the other cells have no label
+  pub empty : vacant (labels label t) + occupied t ≡ length t
+  -- where the labels are a sound table it is the number of labels
+  pub number : (n : ℕ) (home : ℕ → ℕ) → ((x : ℕ) → home x < n) → Sound n home (labels label t) → countOf t ≡ size (labels label t)
+  pub listed : InCellOrder t (entriesOf t)
   -- a group listed fills its own places, from its place up to that of the next, and no others
-  pub group-fills : (g p : ℕ) (out : List ℕ) → p < length out → placeOf t g ≤ p → p < placeOf t (suc g) → getD (groupListed t g out) p 0 ≡ getD (keysOf t) p 0
+  pub group-fills : (g p : ℕ) (out : List ℕ) → p < length out → placeOf t g ≤ p → p < placeOf t (suc g) → getD (groupListed t g out) p 0 ≡ getD (entriesOf t) p 0
   pub group-keeps : (g p : ℕ) (out : List ℕ) → (placeOf t g ≤ p → p < placeOf t (suc g) → ⊥) → getD (groupListed t g out) p 0 ≡ getD out p 0
   -- groups listed in any order, each at least once, give the same list
   pub any-order : (gs out : List ℕ) → countOf t ≤ length out → ((g : ℕ) → g < groups t → In g gs) → groupsListed t gs out ≡ filled t out

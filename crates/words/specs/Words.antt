@@ -1,4 +1,4 @@
--- Occupancy words (document 01: taken words), and the keys of a table in cell order.
+-- Occupancy words (document 01: taken words), and the entries of a table in cell order: the contents of the cells that hold a label.
 use mathlib.Core.Bool.{cond}
 use mathlib.Core.List.{List, [], _∷_, _++_}
 use Prim.Native.Nat.{ℕ, _+_, _*_, _/_}
@@ -7,25 +7,26 @@ use lib.Dec.{leb, eqb}
 use lib.ListN.{length, take, drop}
 use lib.Seq.{sets}
 use Rattle.ring.specs.Counting.{tally}
+use Rattle.prices.specs.Contents.{label}
 
--- ---- the keys of a list of cells
--- 1 where a cell holds a key, else 0
+-- ---- the entries of a list of cells
+-- 1 where a cell holds a label, else 0
 abbrev pub taken : ℕ → ℕ
-taken x = cond (eqb x 0) 0 1
+taken x = cond (eqb (label x) 0) 0 1
 
--- how many cells hold a key
+-- how many cells hold a label
 abbrev pub occupied : List ℕ → ℕ
 occupied [] = 0
 occupied (x ∷ xs) = taken x + occupied xs
 
--- the keys in cell order
-abbrev pub keysOf : List ℕ → List ℕ
-keysOf [] = []
-keysOf (x ∷ xs) = cond (eqb x 0) (keysOf xs) (x ∷ keysOf xs)
+-- the entries in cell order, each whole
+abbrev pub entriesOf : List ℕ → List ℕ
+entriesOf [] = []
+entriesOf (x ∷ xs) = cond (eqb (label x) 0) (entriesOf xs) (x ∷ entriesOf xs)
 
--- a lent list with the keys at its front; places behind keep their contents
+-- a lent list with the entries at its front; places behind keep their contents
 abbrev pub filled : List ℕ → List ℕ → List ℕ
-filled t out = keysOf t ++ drop (occupied t) out
+filled t out = entriesOf t ++ drop (occupied t) out
 
 -- ---- groups of 64 cells, the last with what is left
 abbrev pub groups : List ℕ → ℕ
@@ -34,12 +35,12 @@ groups t = (length t + 63) / 64
 abbrev pub group : List ℕ → ℕ → List ℕ
 group t g = take 64 (drop (64 * g) t)
 
--- the occupancy word of a group: bit b is 1 if its cell b holds a key
+-- the occupancy word of a group: bit b is 1 if its cell b holds a label
 abbrev pub wordOf : List ℕ → ℕ
 wordOf [] = 0
 wordOf (x ∷ xs) = 2 * wordOf xs + taken x
 
--- as many as there are ones in the words before group g: where its keys start in the list
+-- as many as there are ones in the words before group g: where its entries start in the list
 unfoldable pub placeOf : List ℕ → ℕ → ℕ
 placeOf t g = tally (λ i. ones (wordOf (group t i))) g
 
@@ -49,7 +50,7 @@ countOf t = placeOf t (groups t)
 
 -- the list after group g has been listed in its place
 abbrev pub groupListed : List ℕ → ℕ → List ℕ → List ℕ
-groupListed t g out = sets out (placeOf t g) (keysOf (group t g))
+groupListed t g out = sets out (placeOf t g) (entriesOf (group t g))
 
 -- the same for several groups, one after the other
 unfoldable pub groupsListed : List ℕ → List ℕ → List ℕ → List ℕ

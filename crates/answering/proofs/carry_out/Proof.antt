@@ -37,6 +37,9 @@ array-read-give-order c = search needs
 array-read-give-order-2 : tie.Need-array-read-give-order-2
 array-read-give-order-2 c = search needs
 
+array-read-give-order-3 : tie.Need-array-read-give-order-3
+array-read-give-order-3 c = search needs
+
 give-order-requires : tie.Need-give-order-requires
 give-order-requires c κs = search needs
 
@@ -129,6 +132,7 @@ carry-out-spec =
     enum-told-3
     array-read-give-order
     array-read-give-order-2
+    array-read-give-order-3
     give-order-requires
     enum-told-4
     array-read-take-turn

@@ -195,7 +195,7 @@ loop-again c =
     let r = c .before .before .before .answer-order in
     let a = order-line (v .inv .0 .behind .held .ready) to (r .ensures) in
     let line = read .kept .1 .0 in
-    let out = r .kept .1 .1 .1 .1 .1 .1 .0 in (
+    let out = r .kept .1 .1 .1 .1 .1 .1 .1 .0 in (
       next-line (v .inv .0) (inside x) (newline x .byte-at .ensures) (found x .if2 .left) (room x) (read .ensures) a _ line out refl,
       same-on (v .inv .1) line refl out,
     )

@@ -14,10 +14,10 @@ use Rattle.calls.proofs.order.Statement.{statement}
 use Rattle.calls.proofs.order.Tie as tie
 
 abbrev Inv-loop : tie.InvT-loop
-Inv-loop worker key p i₀ i = Passed gateway p i
+Inv-loop worker key price p i₀ i = Passed gateway p i
 
 abbrev μ-loop : tie.MeasureT-loop
-μ-loop worker key p i₀ i = 16 - i
+μ-loop worker key price p i₀ i = 16 - i
 
 numbers-ok-requires : tie.Need-numbers-ok-requires Inv-loop μ-loop
 numbers-ok-requires c κs = search needs
@@ -28,7 +28,7 @@ refused-requires c κs = search needs
 returns : tie.Need-returns Inv-loop μ-loop
 returns c =
     let a = c .before .before .before .args in
-    order-refused gateway (a .t1) (a .worker) (a .key) _ Spoilt (c .refused .ensures)
+    order-refused gateway (a .t1) (a .worker) (a .key) (a .price) _ Spoilt (c .refused .ensures)
     (simp (ill-by-numbers gateway (a .t1) (sym (c .before .before .numbers-ok .ensures) ∙ not-true _ (c .before .if1 .taken))))
 
 loop-holds : tie.Need-loop-holds Inv-loop μ-loop
@@ -55,7 +55,7 @@ returns-2 : tie.Need-returns-2 Inv-loop μ-loop
 returns-2 c =
     let b = c .before .before .before .before .before in
     let a = b .before .before .before .args in
-    order-refused gateway (a .t1) (a .worker) (a .key) _ Spoilt (c .refused2 .ensures)
+    order-refused gateway (a .t1) (a .worker) (a .key) (a .price) _ Spoilt (c .refused2 .ensures)
     (simp (fails gateway (a .t1) _ (b .loop .inv) (c .before .before .before .before .loop-test .taken) _
     (c .before .before .worker-ok .ensures) (not-true _ (c .before .if2 .taken))))
 
@@ -74,7 +74,7 @@ refused-requires-3 c κs = search needs
 returns-3 : tie.Need-returns-3 Inv-loop μ-loop
 returns-3 c =
     let a = c .before .before .before .before .before .before .args in
-    order-refused gateway (a .t1) (a .worker) (a .key) _ Shut (c .refused3 .ensures)
+    order-refused gateway (a .t1) (a .worker) (a .key) (a .price) _ Shut (c .refused3 .ensures)
     (simp (passed-all _ _ _ (c .before .before .before .loop .inv) (c .before .before .loop-test .left), c .before .if3 .taken))
 
 cast-if4 : tie.Need-cast-if4 Inv-loop μ-loop
@@ -86,7 +86,7 @@ refused-requires-4 c κs = search needs
 returns-4 : tie.Need-returns-4 Inv-loop μ-loop
 returns-4 c =
     let a = c .before .before .before .before .before .before .before .args in
-    order-refused gateway (a .t1) (a .worker) (a .key) _ NoWorker (c .refused4 .ensures)
+    order-refused gateway (a .t1) (a .worker) (a .key) (a .price) _ NoWorker (c .refused4 .ensures)
     (simp (passed-all _ _ _ (c .before .before .before .before .loop .inv) (c .before .before .before .loop-test .left), c .before .before .if3 .left, le-leb _ _ (c .before .if4 .taken)))
 
 mul-one-order : tie.Need-mul-one-order Inv-loop μ-loop
@@ -116,7 +116,7 @@ returns-5 c =
     let d = c .before .before .before .before .before in
     let a = d .before .before .before .before .args in
     ap (with-given (a .t1) (a .worker)) (c .before .one-order .ensures)
-    ∙ order-by-one gateway (a .t1) (a .worker) (a .key) (passed-all _ _ _ (d .before .loop .inv) (d .loop-test .left))
+    ∙ order-by-one gateway (a .t1) (a .worker) (a .key) (a .price) (passed-all _ _ _ (d .before .loop .inv) (d .loop-test .left))
     (c .before .before .before .before .if3 .left) (c .before .before .before .if4 .left)
 
 pub order-spec : {M : Type 1} → statement M

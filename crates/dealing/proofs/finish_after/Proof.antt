@@ -17,14 +17,14 @@ enum-told-2 c = search needs
 enum-told-3 : tie.Need-enum-told-3
 enum-told-3 c = search needs
 
+enum-known-answer : tie.Need-enum-known-answer
+enum-known-answer c = search needs
+
 enum-told-4 : tie.Need-enum-told-4
 enum-told-4 c = search needs
 
 enum-told-5 : tie.Need-enum-told-5
 enum-told-5 c = search needs
-
-enum-told-6 : tie.Need-enum-told-6
-enum-told-6 c = search needs
 
 returns-2 : tie.Need-returns-2
 returns-2 c = search needs
@@ -33,10 +33,10 @@ returns-3 : tie.Need-returns-3
 returns-3 c = rw (c .before .before .before .reply .given .1) (rw (c .enum-told3 .given .1))
 
 returns-4 : tie.Need-returns-4
-returns-4 c = rw (c .before .before .before .reply .given .1) (rw (c .enum-told4 .given .1))
+returns-4 c = rw (c .before .before .before .before .reply .given .1) (rw (c .before .answer .given .1))
 
 returns-5 : tie.Need-returns-5
-returns-5 c = rw (c .before .before .before .reply .given .1) (rw (c .enum-told5 .given .1))
+returns-5 c = rw (c .before .before .before .reply .given .1) (rw (c .enum-told4 .given .1))
 
 returns-6 : tie.Need-returns-6
 returns-6 c = search needs
@@ -50,9 +50,9 @@ finish-after-spec =
     returns
     enum-told-2
     enum-told-3
+    enum-known-answer
     enum-told-4
     enum-told-5
-    enum-told-6
     returns-2
     returns-3
     returns-4

@@ -31,6 +31,9 @@ array-read-t19 c = search needs
 array-read-t22 : tie.Need-array-read-t22
 array-read-t22 c = search needs
 
+array-read-t25 : tie.Need-array-read-t25
+array-read-t25 c = search needs
+
 returns-3 : tie.Need-returns-3
 returns-3 c =
     let x = c .before .before .before .before .before in
@@ -44,8 +47,8 @@ enum-told-2 c = search needs
 array-read-if4 : tie.Need-array-read-if4
 array-read-if4 c = search needs
 
-array-read-t29 : tie.Need-array-read-t29
-array-read-t29 c = search needs
+array-read-t32 : tie.Need-array-read-t32
+array-read-t32 c = search needs
 
 returns-4 : tie.Need-returns-4
 returns-4 c =
@@ -89,10 +92,11 @@ aim-of-spec =
     array-read-if3
     array-read-t19
     array-read-t22
+    array-read-t25
     returns-3
     enum-told-2
     array-read-if4
-    array-read-t29
+    array-read-t32
     returns-4
     enum-told-3
     returns-5

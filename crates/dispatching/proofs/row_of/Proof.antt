@@ -1,4 +1,5 @@
 -- One row a command.
+use mathlib.Core.Path.{_∙_}
 use borrow.Author.Needs.{needs}
 use Rattle.dispatching.proofs.row_of.Statement.{statement}
 use Rattle.dispatching.proofs.row_of.Tie as tie
@@ -17,6 +18,9 @@ row-with-requires-2 c κs = search needs
 
 enum-told-3 : tie.Need-enum-told-3
 enum-told-3 c = search needs
+
+order-numbers-requires : tie.Need-order-numbers-requires
+order-numbers-requires c κs = search needs
 
 row-with-requires-3 : tie.Need-row-with-requires-3
 row-with-requires-3 c κs = search needs
@@ -58,7 +62,7 @@ returns-2 : tie.Need-returns-2
 returns-2 c = rw (c .before .enum-told2 .given .1) (simp (c .row-with2 .ensures))
 
 returns-3 : tie.Need-returns-3
-returns-3 c = rw (c .before .enum-told3 .given .1) (simp (c .row-with3 .ensures))
+returns-3 c = rw (c .before .before .enum-told3 .given .1) (c .row-with3 .ensures ∙ simp (c .before .order-numbers .ensures))
 
 returns-4 : tie.Need-returns-4
 returns-4 c = rw (c .before .enum-told4 .given .1) (simp (c .row-with4 .ensures))
@@ -84,6 +88,7 @@ row-of-spec =
     enum-told-2
     row-with-requires-2
     enum-told-3
+    order-numbers-requires
     row-with-requires-3
     enum-told-4
     row-with-requires-4

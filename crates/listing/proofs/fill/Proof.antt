@@ -11,7 +11,7 @@ use lib.ListN.{length}
 use lib.Seq.{sets, length-sets}
 use Rattle.ring.proofs.Split.{by-eq}
 use Rattle.layout.specs.Layout.{In}
-use Rattle.words.specs.Words.{occupied, keysOf, filled, groups, group, wordOf, placeOf, countOf, groupsListed}
+use Rattle.words.specs.Words.{occupied, entriesOf, filled, groups, group, wordOf, placeOf, countOf, groupsListed}
 use Rattle.words.proofs.Places.{place-zero, place-step, place-le-occupied, place-le-length, count-occupied, cells-short, place-after}
 use Rattle.words.proofs.Order.{any-order}
 use Rattle.listing.proofs.fill.Statement.{statement}
@@ -51,14 +51,14 @@ module _ {t old out : List ℕ} {place g : ℕ} (v : Left t old out place g) whe
     fits : countOf t ≤ length old → place + occupied cells ≤ length out
     fits h = omega (arith, place-step t g, place-le-occupied t (suc g), count-occupied t, ap occupied e)
 
-    steps : g < groups t → {r : ℕ} {new : List ℕ} → r ≡ ones (wordOf cells) → new ≡ sets out place (keysOf cells) → Left t old new (place + r) (g + 1)
+    steps : g < groups t → {r : ℕ} {new : List ℕ} → r ≡ ones (wordOf cells) → new ≡ sets out place (entriesOf cells) → Left t old new (place + r) (g + 1)
     unfolding groupsListed
     steps l h f =
         let m : groups t - g ≡ suc (groups t - (g + 1)) = omega arith in
         record {
           inside = omega arith;
           at = place-after t g e (v .at) h;
-          long = ap length f ∙ length-sets out place (keysOf cells) ∙ v .long;
+          long = ap length f ∙ length-sets out place (entriesOf cells) ∙ v .long;
           same = rw (f, e, v .at, add-one) (rw (m, add-one) at (v .same));
         }
 

@@ -1,4 +1,4 @@
--- The loop keeps what is still to be done: storing the keys of the cells from `i` on, from `at` on, gives the listed group.
+-- The loop keeps what is still to be done: storing the entries of the cells from `i` on, from `at` on, gives the listed group.
 use mathlib.Core.Path.{_≡_, refl}
 use mathlib.Core.Logic.{_≢_, ⊎-elim}
 use mathlib.Core.Bool.{false}
@@ -11,7 +11,8 @@ use borrow.Author.Tests.{eq-eqb, ne-eqb}
 use lib.Dec.{eqb}
 use lib.ListN.{length, getD, drop, set, length-set, drop-of-length-le}
 use lib.Seq.{sets, drop-cons}
-use Rattle.words.specs.Words.{taken, occupied, keysOf}
+use Rattle.prices.specs.Contents.{label}
+use Rattle.words.specs.Words.{taken, occupied, entriesOf}
 use Rattle.listing.proofs.list_group.Statement.{statement}
 use Rattle.listing.proofs.list_group.Tie as tie
 
@@ -19,24 +20,24 @@ record Left (group goal : List ℕ) (size : ℕ) (out : List ℕ) (i at : ℕ) :
   inside : i ≤ length group
   long : length out ≡ size
   room : at + occupied (drop i group) ≤ size
-  same : sets out at (keysOf (drop i group)) ≡ goal
+  same : sets out at (entriesOf (drop i group)) ≡ goal
 
 module _ {group goal : List ℕ} {size : ℕ} {out : List ℕ} {i at : ℕ} (v : Left group goal size out i at) (h : i < length group) where
   next-room : at + (taken (getD group i 0) + occupied (drop (suc i) group)) ≤ size
   next-room = rw (drop-cons group i 0) at (v .room)
 
-  next-same : sets out at (keysOf (getD group i 0 ∷ drop (suc i) group)) ≡ goal
+  next-same : sets out at (entriesOf (getD group i 0 ∷ drop (suc i) group)) ≡ goal
   next-same = rw (drop-cons group i 0) at (v .same)
 
-  skips : getD group i 0 ≡ 0 → Left group goal size out (i + 1) at
+  skips : label (getD group i 0) ≡ 0 → Left group goal size out (i + 1) at
   skips e =
-      let empty = eq-eqb (getD group i 0) 0 e in
+      let empty = eq-eqb (label (getD group i 0)) 0 e in
       let r = simp empty at next-room in
       rw add-one (record { inside = h; long = v .long; room = omega arith; same = simp empty at next-same })
 
-  module _ (e : getD group i 0 ≢ 0) where
-    key : eqb (getD group i 0) 0 ≡ false
-    key = ne-eqb (getD group i 0) 0 e
+  module _ (e : label (getD group i 0) ≢ 0) where
+    key : eqb (label (getD group i 0)) 0 ≡ false
+    key = ne-eqb (label (getD group i 0)) 0 e
 
     fits : at < size
     fits = let r = simp key at next-room in omega arith
@@ -47,7 +48,7 @@ module _ {group goal : List ℕ} {size : ℕ} {out : List ℕ} {i at : ℕ} (v :
         rw (add-one i, add-one at) (record { inside = h; long = simp length-set (v .long); room = omega arith; same = simp key at next-same })
 
 abbrev Inv-loop : tie.InvT-loop
-Inv-loop group place out₀ i₀ at₀ out i at = Left group (sets out₀ place (keysOf group)) (length out₀) out i at
+Inv-loop group place out₀ i₀ at₀ out i at = Left group (sets out₀ place (entriesOf group)) (length out₀) out i at
 
 abbrev μ-loop : tie.MeasureT-loop
 μ-loop group place out₀ i₀ at₀ out i at = length group - i
@@ -55,11 +56,11 @@ abbrev μ-loop : tie.MeasureT-loop
 loop-holds : tie.Need-loop-holds Inv-loop μ-loop
 loop-holds c = record { inside = omega arith; long = refl; room = search needs; same = refl }
 
-mul-key : tie.Need-mul-key Inv-loop μ-loop
-mul-key c = search needs
+mul-entry : tie.Need-mul-entry Inv-loop μ-loop
+mul-entry c = search needs
 
-shared-slice-read-key : tie.Need-shared-slice-read-key Inv-loop μ-loop
-shared-slice-read-key c = search needs
+shared-slice-read-entry : tie.Need-shared-slice-read-entry Inv-loop μ-loop
+shared-slice-read-entry c = search needs
 
 mul-out : tie.Need-mul-out Inv-loop μ-loop
 mul-out c = search needs
@@ -99,8 +100,8 @@ list-group-spec =
     Inv-loop
     μ-loop
     loop-holds
-    mul-key
-    shared-slice-read-key
+    mul-entry
+    shared-slice-read-entry
     mul-out
     slice-write-out
     add-at

@@ -1,4 +1,4 @@
--- One return for an empty cell, one for a key.
+-- One return for a cell without a label, one for a label.
 use borrow.Author.Tests.{eq-eqb, ne-eqb}
 use Rattle.listing.proofs.taken_bit.Statement.{statement}
 use Rattle.listing.proofs.taken_bit.Tie as tie

@@ -1,5 +1,5 @@
 use native.Mathlib.Omega.{arith}
-use Rattle.printing.proofs.Printing.{all-written}
+use Rattle.printing.proofs.Printing.{all-written, soon, ten-digits}
 use borrow.Author.Needs.{needs}
 use Rattle.printing.proofs.put_answer.Statement.{statement}
 use Rattle.printing.proofs.put_answer.Tie as tie
@@ -22,6 +22,15 @@ slice-aggregate-put-bytes-2 c = search needs
 put-bytes-requires-2 : tie.Need-put-bytes-requires-2
 put-bytes-requires-2 c κs = search needs
 
+enum-known-answer : tie.Need-enum-known-answer
+enum-known-answer c = search needs
+
+cast-put-field : tie.Need-cast-put-field
+cast-put-field c = search needs
+
+put-field-requires : tie.Need-put-field-requires
+put-field-requires c κs = omega (arith, ten-digits _ (c .before .known-told .given .0 .1))
+
 enum-told-3 : tie.Need-enum-told-3
 enum-told-3 c = search needs
 
@@ -40,44 +49,35 @@ slice-aggregate-put-bytes-4 c = search needs
 put-bytes-requires-4 : tie.Need-put-bytes-requires-4
 put-bytes-requires-4 c κs = search needs
 
-enum-told-5 : tie.Need-enum-told-5
-enum-told-5 c = search needs
-
-slice-aggregate-put-bytes-5 : tie.Need-slice-aggregate-put-bytes-5
-slice-aggregate-put-bytes-5 c = search needs
-
-put-bytes-requires-5 : tie.Need-put-bytes-requires-5
-put-bytes-requires-5 c κs = search needs
-
 same-length : tie.Need-same-length
 same-length c = search needs
 
 returns : tie.Need-returns
-returns c = rw (c .before .before .before .before .before .enum-told .given .1) (all-written (omega arith) (c .before .before .put-bytes .ensures))
+returns c = rw (c .before .before .before .before .before .enum-told .given .1) (soon (omega arith) (all-written (omega arith) (c .before .before .put-bytes .ensures)))
 
 same-length-2 : tie.Need-same-length-2
 same-length-2 c = search needs
 
 returns-2 : tie.Need-returns-2
-returns-2 c = rw (c .before .before .before .before .before .enum-told2 .given .1) (all-written (omega arith) (c .before .before .put-bytes2 .ensures))
+returns-2 c = rw (c .before .before .before .before .before .enum-told2 .given .1) (soon (omega arith) (all-written (omega arith) (c .before .before .put-bytes2 .ensures)))
 
 same-length-3 : tie.Need-same-length-3
 same-length-3 c = search needs
 
 returns-3 : tie.Need-returns-3
-returns-3 c = rw (c .before .before .before .before .before .enum-told3 .given .1) (all-written (omega arith) (c .before .before .put-bytes3 .ensures))
+returns-3 c = rw (c .before .before .before .before .before .answer .given .1) (soon (omega (arith, ten-digits _ (c .before .before .before .before .known-told .given .0 .1))) (c .before .before .put-field .ensures))
 
 same-length-4 : tie.Need-same-length-4
 same-length-4 c = search needs
 
 returns-4 : tie.Need-returns-4
-returns-4 c = rw (c .before .before .before .before .before .enum-told4 .given .1) (all-written (omega arith) (c .before .before .put-bytes4 .ensures))
+returns-4 c = rw (c .before .before .before .before .before .enum-told3 .given .1) (soon (omega arith) (all-written (omega arith) (c .before .before .put-bytes3 .ensures)))
 
 same-length-5 : tie.Need-same-length-5
 same-length-5 c = search needs
 
 returns-5 : tie.Need-returns-5
-returns-5 c = rw (c .before .before .before .before .before .enum-told5 .given .1) (all-written (omega arith) (c .before .before .put-bytes5 .ensures))
+returns-5 c = rw (c .before .before .before .before .before .enum-told4 .given .1) (soon (omega arith) (all-written (omega arith) (c .before .before .put-bytes4 .ensures)))
 
 pub put-answer-spec : {M : Type 1} → statement M
 put-answer-spec =
@@ -89,15 +89,15 @@ put-answer-spec =
     enum-told-2
     slice-aggregate-put-bytes-2
     put-bytes-requires-2
+    enum-known-answer
+    cast-put-field
+    put-field-requires
     enum-told-3
     slice-aggregate-put-bytes-3
     put-bytes-requires-3
     enum-told-4
     slice-aggregate-put-bytes-4
     put-bytes-requires-4
-    enum-told-5
-    slice-aggregate-put-bytes-5
-    put-bytes-requires-5
     same-length
     returns
     same-length-2

@@ -26,6 +26,9 @@ same-length c = search needs
 returns : tie.Need-returns Inv-loop μ-loop
 returns c = let v = c .before .before .loop .inv in (finishing-ends (v .0) (c .if1 .taken), omega (arith, v .0 .short, v .1 .1))
 
+mul-finish : tie.Need-mul-finish Inv-loop μ-loop
+mul-finish c = search needs
+
 array-copy-out-finish : tie.Need-array-copy-out-finish Inv-loop μ-loop
 array-copy-out-finish c = search needs
 
@@ -58,6 +61,7 @@ put-finishes-spec =
     loop-holds
     same-length
     returns
+    mul-finish
     array-copy-out-finish
     put-finish-requires
     add-w

@@ -8,8 +8,8 @@ use Rattle.printing.proofs.put_list.Tie as tie
 put-field-requires : tie.Need-put-field-requires
 put-field-requires c κs = omega (arith, most-digits _ (c .before .before .before .fits .count .fits))
 
-put-keys-requires : tie.Need-put-keys-requires
-put-keys-requires c κs = let e = c .before .before .before .put-field .ensures in omega (
+put-entries-requires : tie.Need-put-entries-requires
+put-entries-requires c κs = let e = c .before .before .before .put-field .ensures in omega (
   arith,
   e .place,
   as-long e,
@@ -23,8 +23,8 @@ same-length c = search needs
 returns : tie.Need-returns
 returns c =
     let e = c .before .before .before .before .before .before .put-field .ensures in
-    let f = c .before .before .put-keys .ensures in
+    let f = c .before .before .put-entries .ensures in
     (printed-on e (f .0), omega (arith, e .place, f .1, most-digits _ (c .before .before .before .before .before .before .before .before .before .before .fits .count .fits)))
 
 pub put-list-spec : {M : Type 1} → statement M
-put-list-spec = tie.close (tie.spec put-field-requires put-keys-requires same-length returns)
+put-list-spec = tie.close (tie.spec put-field-requires put-entries-requires same-length returns)

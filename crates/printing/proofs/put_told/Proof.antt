@@ -1,5 +1,5 @@
 use native.Mathlib.Omega.{arith}
-use Rattle.printing.proofs.Printing.{soon, reply-short, turn-short}
+use Rattle.printing.proofs.Printing.{soon, reply-short}
 use borrow.Author.Needs.{needs}
 use Rattle.printing.proofs.put_told.Statement.{statement}
 use Rattle.printing.proofs.put_told.Tie as tie
@@ -42,11 +42,7 @@ same-length-2 : tie.Need-same-length-2
 same-length-2 c = search needs
 
 returns-2 : tie.Need-returns-2
-returns-2 c = rw (c .before .before .before .before .before .told2 .given .1) (soon (omega (
-  arith,
-  turn-short
-      (c .before .before .before .before .before .told2 .given .0 .0),
-)) (c .before .before .put-turn .ensures))
+returns-2 c = let e = c .before .before .put-turn .ensures in rw (c .before .before .before .before .before .told2 .given .1) (e .0, omega (arith, e .1))
 
 same-length-3 : tie.Need-same-length-3
 same-length-3 c = search needs

@@ -1,3 +1,4 @@
+use Rattle.printing.proofs.Printing.{soon, refusal-short}
 use borrow.Author.Needs.{needs}
 use Rattle.printing.proofs.put_turn.Statement.{statement}
 use Rattle.printing.proofs.put_turn.Tie as tie
@@ -24,7 +25,7 @@ same-length-2 : tie.Need-same-length-2
 same-length-2 c = search needs
 
 returns-2 : tie.Need-returns-2
-returns-2 c = rw (c .before .before .before .before .before .reply2 .given .1) (c .before .before .put-refusal .ensures)
+returns-2 c = rw (c .before .before .before .before .before .reply2 .given .1) (soon (refusal-short (c .before .before .before .before .before .reply2 .given .0 .0)) (c .before .before .put-refusal .ensures))
 
 pub put-turn-spec : {M : Type 1} → statement M
 put-turn-spec =

@@ -7,6 +7,7 @@ use denote.Enum.Declared.{tagOf}
 use borrow.Author.Tests.{eq-eqb, le-ltb, lt-ltb, ne-eqb}
 use borrow.Author.Needs.{needs}
 use Rattle.layout.specs.Home.{modulo}
+use Rattle.prices.specs.Contents.{label}
 use Rattle.activities.specs.declared.Activity.{Activity}
 use Rattle.activities.specs.declared.Activity.the-variants.{Idle, Reading, Replacing, WalkingBack, SeekingForward, SeekingBack}
 use Rattle.activities.proofs.Activity.{the-type}
@@ -15,14 +16,14 @@ use Rattle.probing.proofs.find_step.Statement.{statement}
 use Rattle.probing.proofs.find_step.Tie as tie
 
 -- activities that find lacks are left as they are
-other : (n : ℕ) (h : ℕ → ℕ) (a : Activity) (x : ℕ) → OneOf (0 ∷ 2 ∷ 3 ∷ 4 ∷ 5 ∷ []) (tagOf the-type a) → unmoved a x ≡ findStep n h a x
+other : (n : ℕ) (f h : ℕ → ℕ) (a : Activity) (x : ℕ) → OneOf (0 ∷ 2 ∷ 3 ∷ 4 ∷ 5 ∷ []) (tagOf the-type a) → unmoved a x ≡ findStep n f h a x
 unfolding findStep
-other n h Idle c t = refl
-other n h (Reading v i) c t = absurd (miss (0 ∷ 2 ∷ 3 ∷ 4 ∷ 5 ∷ []) 1 tt t)
-other n h (Replacing v k j x) c t = refl
-other n h (WalkingBack v k) c t = refl
-other n h (SeekingForward v k j) c t = refl
-other n h (SeekingBack v k j x p) c t = refl
+other n f h Idle c t = refl
+other n f h (Reading v i) c t = absurd (miss (0 ∷ 2 ∷ 3 ∷ 4 ∷ 5 ∷ []) 1 tt t)
+other n f h (Replacing v k j x) c t = refl
+other n f h (WalkingBack v k) c t = refl
+other n f h (SeekingForward v k j) c t = refl
+other n f h (SeekingBack p v k j x) c t = refl
 
 enum-known-activity : tie.Need-enum-known-activity
 enum-known-activity c = search needs
@@ -33,7 +34,7 @@ unmoved-requires c κs = search needs
 returns : tie.Need-returns
 unfolding findStep
 returns c = let a = c .before .before .args in
-    c .unmoved .ensures ∙ other (a .length) (modulo (a .length)) (a .activity) (a .content) (c .before .match .keys2)
+    c .unmoved .ensures ∙ other (a .length) label (modulo (a .length)) (a .activity) (a .content) (c .before .match .keys2)
 
 reads-on-requires : tie.Need-reads-on-requires
 reads-on-requires c κs = (rw (c .before .before .activity .given .1) at (c .before .before .before .before .pre)) .0
@@ -42,12 +43,16 @@ returns-2 : tie.Need-returns-2
 unfolding findStep
 returns-2 c = rw (c .before .before .before .activity .given .1) (simp (c .reads-on .ensures, lt-ltb _ _ (c .before .if1 .taken)))
 
+price-of-requires : tie.Need-price-of-requires
+price-of-requires c κs = search needs
+
 ends-requires : tie.Need-ends-requires
 ends-requires c κs = search needs
 
 returns-3 : tie.Need-returns-3
 unfolding findStep
-returns-3 c = rw (c .before .before .before .before .activity .given .1) (simp (c .ends .ensures, eq-eqb _ _ (c .before .if2 .taken), le-ltb _ _ (c .before .before .if1 .left)))
+returns-3 c = rw (c .before .before .before .before .before .activity .given .1)
+    (simp (c .ends .ensures, c .before .price-of .ensures, eq-eqb _ _ (c .before .before .if2 .taken), le-ltb _ _ (c .before .before .before .if1 .left)))
 
 ends-requires-2 : tie.Need-ends-requires-2
 ends-requires-2 c κs = search needs
@@ -65,6 +70,7 @@ find-step-spec =
     returns
     reads-on-requires
     returns-2
+    price-of-requires
     ends-requires
     returns-3
     ends-requires-2

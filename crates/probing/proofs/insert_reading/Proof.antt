@@ -1,4 +1,5 @@
-use borrow.Author.Tests.{eq-eqb, le-ltb, lt-ltb, ne-eqb}
+use mathlib.Core.Path.{sym, _∙_}
+use borrow.Author.Tests.{le-ltb, lt-ltb}
 use borrow.Author.Needs.{needs}
 use Rattle.rule.specs.Rule.{insertStep}
 use Rattle.probing.proofs.insert_reading.Statement.{statement}
@@ -11,20 +12,23 @@ returns : tie.Need-returns
 unfolding insertStep
 returns c = simp (c .reads-on .ensures, lt-ltb _ _ (c .before .if1 .taken))
 
+settled-requires : tie.Need-settled-requires
+settled-requires c κs = search needs
+
 ends-requires : tie.Need-ends-requires
 ends-requires c κs = search needs
 
 returns-2 : tie.Need-returns-2
 unfolding insertStep
-returns-2 c = simp (c .ends .ensures, eq-eqb _ _ (c .before .if2 .taken), le-ltb _ _ (c .before .before .if1 .left))
+returns-2 c = simp (c .ends .ensures, sym (c .before .before .settled .ensures) ∙ c .before .if2 .taken, le-ltb _ _ (c .before .before .before .if1 .left))
 
 goes-requires : tie.Need-goes-requires
 goes-requires c κs = search needs
 
 returns-3 : tie.Need-returns-3
 unfolding insertStep
-returns-3 c = simp (c .goes .ensures, ne-eqb _ _ (c .before .if2 .left), le-ltb _ _ (c .before .before .if1 .left))
+returns-3 c = simp (c .goes .ensures, sym (c .before .before .settled .ensures) ∙ c .before .if2 .left, le-ltb _ _ (c .before .before .before .if1 .left))
 
 pub insert-reading-spec : {M : Type 1} → statement M
 insert-reading-spec =
-    tie.close (tie.spec reads-on-requires returns ends-requires returns-2 goes-requires returns-3)
+    tie.close (tie.spec reads-on-requires returns settled-requires ends-requires returns-2 goes-requires returns-3)

@@ -6,6 +6,7 @@ use types.Run.{OneOf, miss}
 use denote.Enum.Declared.{tagOf}
 use borrow.Author.Needs.{needs}
 use Rattle.layout.specs.Home.{modulo}
+use Rattle.prices.specs.Contents.{label}
 use Rattle.activities.specs.declared.Activity.{Activity}
 use Rattle.activities.specs.declared.Activity.the-variants.{Idle, Reading, Replacing, WalkingBack, SeekingForward, SeekingBack}
 use Rattle.activities.proofs.Activity.{the-type}
@@ -14,14 +15,14 @@ use Rattle.probing.proofs.insert_step.Statement.{statement}
 use Rattle.probing.proofs.insert_step.Tie as tie
 
 -- activities that insert lacks are left as they are
-other : (n : ℕ) (h : ℕ → ℕ) (a : Activity) (x : ℕ) → OneOf (0 ∷ 3 ∷ 4 ∷ 5 ∷ []) (tagOf the-type a) → unmoved a x ≡ insertStep n h a x
+other : (n : ℕ) (f h : ℕ → ℕ) (a : Activity) (x : ℕ) → OneOf (0 ∷ 3 ∷ 4 ∷ 5 ∷ []) (tagOf the-type a) → unmoved a x ≡ insertStep n f h a x
 unfolding insertStep
-other n h Idle c t = refl
-other n h (Reading v i) c t = absurd (miss (0 ∷ 3 ∷ 4 ∷ 5 ∷ []) 1 tt t)
-other n h (Replacing v k j x) c t = absurd (miss (0 ∷ 3 ∷ 4 ∷ 5 ∷ []) 2 tt t)
-other n h (WalkingBack v k) c t = refl
-other n h (SeekingForward v k j) c t = refl
-other n h (SeekingBack v k j x p) c t = refl
+other n f h Idle c t = refl
+other n f h (Reading v i) c t = absurd (miss (0 ∷ 3 ∷ 4 ∷ 5 ∷ []) 1 tt t)
+other n f h (Replacing v k j x) c t = absurd (miss (0 ∷ 3 ∷ 4 ∷ 5 ∷ []) 2 tt t)
+other n f h (WalkingBack v k) c t = refl
+other n f h (SeekingForward v k j) c t = refl
+other n f h (SeekingBack p v k j x) c t = refl
 
 enum-known-activity : tie.Need-enum-known-activity
 enum-known-activity c = search needs
@@ -49,7 +50,7 @@ returns-2 c = rw (c .before .before .activity2 .given .1) (simp (c .insert-repla
 returns-3 : tie.Need-returns-3
 unfolding insertStep
 returns-3 c = let a = c .before .before .args in
-    c .unmoved .ensures ∙ other (a .length) (modulo (a .length)) (a .activity) (a .content) (c .before .match .keys3)
+    c .unmoved .ensures ∙ other (a .length) label (modulo (a .length)) (a .activity) (a .content) (c .before .match .keys3)
 
 pub insert-step-spec : {M : Type 1} → statement M
 insert-step-spec =

@@ -16,8 +16,8 @@ enum-known-checked c = search needs
 enum-told : tie.Need-enum-told
 enum-told c = search needs
 
-list-keys-requires : tie.Need-list-keys-requires
-list-keys-requires c κs = search needs
+list-entries-requires : tie.Need-list-entries-requires
+list-entries-requires c κs = search needs
 
 returns : tie.Need-returns
 returns c =
@@ -31,7 +31,7 @@ same-length c = search needs
 returns-2 : tie.Need-returns-2
 returns-2 c =
     let a = c .before .before .before .before .before .before .before .before .before .before .args in
-    let listed = c .before .before .before .list-keys .ensures in
+    let listed = c .before .before .before .list-entries .ensures in
     short gateway (a .cells .now) (a .out .now)
     (sym (c .before .before .before .before .before .before .before .check .ensures) ∙ c .before .before .before .before .before .enum-told .given .1) _ _ (listed .0) (listed .1) (c .if1 .taken)
 
@@ -41,7 +41,7 @@ same-length-2 c = search needs
 returns-3 : tie.Need-returns-3
 returns-3 c =
     let a = c .before .before .before .before .before .before .before .before .before .before .args in
-    let listed = c .before .before .before .list-keys .ensures in
+    let listed = c .before .before .before .list-entries .ensures in
     full gateway (a .cells .now) (a .out .now)
     (sym (c .before .before .before .before .before .before .before .check .ensures) ∙ c .before .before .before .before .before .enum-told .given .1) _ _ (listed .0) (listed .1) (c .if1 .left)
 
@@ -52,7 +52,7 @@ list-spec =
     check-requires
     enum-known-checked
     enum-told
-    list-keys-requires
+    list-entries-requires
     returns
     same-length
     returns-2

@@ -8,19 +8,19 @@ use Rattle.singly.proofs.run_singly.Statement.{statement}
 use Rattle.singly.proofs.run_singly.Tie as tie
 
 abbrev Inv-loop : tie.InvT-loop
-Inv-loop cells₀ ops workers keys answers₀ all next₀ i₀ cells answers next i =
-    (all ≡ fewest ops workers keys answers₀) × (i ≤ all) × Singly ops workers keys next₀ cells₀ answers₀ i next cells answers
+Inv-loop cells₀ ops workers keys prices answers₀ all next₀ i₀ cells answers next i =
+    (all ≡ fewest ops workers keys prices answers₀) × (i ≤ all) × Singly ops workers keys prices next₀ cells₀ answers₀ i next cells answers
 
 abbrev μ-loop : tie.MeasureT-loop
-μ-loop cells₀ ops workers keys answers₀ all next₀ i₀ cells answers next i = all - i
+μ-loop cells₀ ops workers keys prices answers₀ all next₀ i₀ cells answers next i = all - i
 
 fewest-requires : tie.Need-fewest-requires Inv-loop μ-loop
 fewest-requires c κs = search needs
 
 loop-holds : tie.Need-loop-holds Inv-loop μ-loop
 loop-holds c =
-    let a = c .before .before .before .before .before .before .args in
-    (c .fewest .ensures, omega arith, singly-none (a .ops .now) (a .workers .now) (a .keys .now) (a .phase) (a .cells .now) (a .answers .now))
+    let a = c .before .before .before .before .before .before .before .args in
+    (c .fewest .ensures, omega arith, singly-none (a .ops .now) (a .workers .now) (a .keys .now) (a .prices .now) (a .phase) (a .cells .now) (a .answers .now))
 
 mul-op : tie.Need-mul-op Inv-loop μ-loop
 mul-op c = omega arith
@@ -35,13 +35,19 @@ shared-slice-read-worker : tie.Need-shared-slice-read-worker Inv-loop μ-loop
 shared-slice-read-worker c = omega arith
 
 cast-worker : tie.Need-cast-worker Inv-loop μ-loop
-cast-worker c = omega (arith, c .shared-slice-known5 .given (c .before .before .before .loop .i))
+cast-worker c = omega (arith, c .shared-slice-known6 .given (c .before .before .before .loop .i))
 
 mul-key : tie.Need-mul-key Inv-loop μ-loop
 mul-key c = omega arith
 
 shared-slice-read-key : tie.Need-shared-slice-read-key Inv-loop μ-loop
 shared-slice-read-key c = omega arith
+
+mul-price : tie.Need-mul-price Inv-loop μ-loop
+mul-price c = omega arith
+
+shared-slice-read-price : tie.Need-shared-slice-read-price Inv-loop μ-loop
+shared-slice-read-price c = omega arith
 
 add-i : tie.Need-add-i Inv-loop μ-loop
 add-i c = omega arith
@@ -56,14 +62,14 @@ mul-answers : tie.Need-mul-answers Inv-loop μ-loop
 mul-answers c = omega arith
 
 slice-write-answers : tie.Need-slice-write-answers Inv-loop μ-loop
-slice-write-answers c = omega (arith, c .before .before .before .before .before .before .before .before .loop .inv .2 .same-answers)
+slice-write-answers c = omega (arith, c .before .before .before .before .before .before .before .before .before .loop .inv .2 .same-answers)
 
 loop-less : tie.Need-loop-less Inv-loop μ-loop
 loop-less c = omega arith
 
 loop-again : tie.Need-loop-again Inv-loop μ-loop
 loop-again c =
-    let at = c .before .before .before .before .before .before .before .before .loop in
+    let at = c .before .before .before .before .before .before .before .before .before .loop in
     (at .inv .0, omega arith, ordered-next (at .inv .2) (omega arith) (c .before .before .before .if1 .taken) (c .before .before .order .ensures) (c .reply-answer .ensures))
 
 turn-requires : tie.Need-turn-requires Inv-loop μ-loop
@@ -76,14 +82,14 @@ mul-answers-2 : tie.Need-mul-answers-2 Inv-loop μ-loop
 mul-answers-2 c = omega arith
 
 slice-write-answers-2 : tie.Need-slice-write-answers-2 Inv-loop μ-loop
-slice-write-answers-2 c = omega (arith, c .before .before .before .before .before .before .before .before .before .before .before .before .loop .inv .2 .same-answers)
+slice-write-answers-2 c = omega (arith, c .before .before .before .before .before .before .before .before .before .before .before .before .before .loop .inv .2 .same-answers)
 
 loop-less-2 : tie.Need-loop-less-2 Inv-loop μ-loop
 loop-less-2 c = omega arith
 
 loop-again-2 : tie.Need-loop-again-2 Inv-loop μ-loop
 loop-again-2 c =
-    let at = c .before .before .before .before .before .before .before .before .before .before .before .before .loop in (
+    let at = c .before .before .before .before .before .before .before .before .before .before .before .before .before .loop in (
       at .inv .0,
       omega arith,
       turned-next (at .inv .2) (omega arith)
@@ -100,14 +106,14 @@ mul-answers-3 : tie.Need-mul-answers-3 Inv-loop μ-loop
 mul-answers-3 c = omega arith
 
 slice-write-answers-3 : tie.Need-slice-write-answers-3 Inv-loop μ-loop
-slice-write-answers-3 c = omega (arith, c .before .before .before .before .before .before .before .before .before .loop .inv .2 .same-answers)
+slice-write-answers-3 c = omega (arith, c .before .before .before .before .before .before .before .before .before .before .loop .inv .2 .same-answers)
 
 loop-less-3 : tie.Need-loop-less-3 Inv-loop μ-loop
 loop-less-3 c = omega arith
 
 loop-again-3 : tie.Need-loop-again-3 Inv-loop μ-loop
 loop-again-3 c =
-    let at = c .before .before .before .before .before .before .before .before .before .loop in (
+    let at = c .before .before .before .before .before .before .before .before .before .before .loop in (
       at .inv .0,
       omega arith,
       closed-next (at .inv .2) (omega arith)
@@ -122,9 +128,9 @@ same-length-2 c = c .before .loop .inv .2 .same-answers
 
 returns : tie.Need-returns Inv-loop μ-loop
 returns c =
-    let a = c .before .before .before .before .before .before .before .before .args in
+    let a = c .before .before .before .before .before .before .before .before .before .args in
     let at = c .before .loop in
-    let e : at .i ≡ fewest (a .ops .now) (a .workers .now) (a .keys .now) (a .answers .now) = omega arith in
+    let e : at .i ≡ fewest (a .ops .now) (a .workers .now) (a .keys .now) (a .prices .now) (a .answers .now) = omega arith in
     rw e at (at .inv .2 .ran)
 
 pub run-singly-spec : {M : Type 1} → statement M
@@ -142,6 +148,8 @@ run-singly-spec =
     cast-worker
     mul-key
     shared-slice-read-key
+    mul-price
+    shared-slice-read-price
     add-i
     order-requires
     reply-answer-requires

@@ -1,0 +1,56 @@
+-- What words of the promises mean, on lists that are written out.
+use mathlib.Core.Path.{_≡_, refl}
+use mathlib.Core.Logic.{_⊎_, inl, inr, ⊎-elim}
+use mathlib.Core.List.{List, [], _∷_}
+use Prim.Native.Nat.{ℕ, _<_}
+use native.Mathlib.Omega.{arith}
+use lib.Dec.{T}
+use Rattle.layout.specs.Layout.{In, into, descending, listed}
+use Rattle.prices.specs.Contents.{label, price, content}
+use Rattle.prices.specs.Priced.{Least, lesser, least}
+use Rattle.rule.specs.Events.{event, run, accepts, ordered}
+use Rattle.phases.specs.Promise.{Sold, SameOrders}
+use Rattle.examples.specs.Examples.{atPrices}
+use Rattle.examples.specs.Meanings.{Meanings}
+use Rattle.examples.proofs.Members.{leastIn, allIn, same-orders, same-keys, is-least}
+
+three : Sold label atPrices 3 7
+three = record { content = content 3 7; member = inr (inr (inr (inr (inl refl)))); is = refl; costs = refl }
+
+higher : SameOrders 1 label (content 8 5 ∷ content 8 3 ∷ []) (content 8 3 ∷ [])
+unfolding leastIn listed lesser least
+higher = same-orders 1 (content 8 5 ∷ content 8 3 ∷ []) (content 8 3 ∷ []) tt tt
+
+other : SameOrders 2 label (content 8 5 ∷ []) (content 8 3 ∷ [])
+unfolding allIn listed
+other = same-keys 2 (λ z. omega arith) (content 8 5 ∷ []) (content 8 3 ∷ []) tt tt
+
+own : Least label (content 8 3 ∷ []) (content 8 3)
+unfolding lesser least
+own = is-least (content 8 3 ∷ []) (content 8 3) (λ z. omega arith) (inl refl) tt
+
+not-in : In (content 8 3) (content 8 5 ∷ []) → ⊥
+not-in i = ⊎-elim (λ e. let z : content 8 3 ≡ content 8 5 = e in omega arith) (λ b. absurd b) i
+
+four-sold : Sold label atPrices 4 7 → ⊥
+four-sold s = go (s .content) (s .member) (s .is)
+  where
+    go : (c : ℕ) → In c atPrices → label c ≡ 4 → ⊥
+    go c i e =
+        ⊎-elim (λ a. zero-is c a e) (⊎-elim (λ a. zero-is c a e) (⊎-elim (λ a. zero-is c a e) (⊎-elim (λ a. let z : c ≡ content 8 9 = a in omega arith) (⊎-elim (λ a. let z : c ≡ content 3 7 = a in omega arith) (λ b. absurd b))))) i
+      where
+        zero-is : (c : ℕ) → c ≡ 0 → label c ≡ 4 → ⊥
+        zero-is c a e = omega arith
+
+pub meanings : Meanings
+unfolding run event accepts ordered descending into
+meanings = record {
+  higher-too = higher;
+  other-least = λ h. not-in (h .1 refl (content 8 3) (λ z. omega arith) .1 own .member);
+  unread = other;
+  wrong-no = λ r. absurd (r .1 7 .1 three .0);
+  wrong-price = λ r. let z : _≡_ {A = ℕ} 8 7 = r .1 7 .1 three .1 in omega arith;
+  wrong-label = λ r. four-sold (r .1 7 .0 (tt, refl));
+  wrong-before = λ r. absurd (r .2 .1 7 .1 three .0);
+  room = omega arith;
+}
