@@ -1,17 +1,18 @@
 //! Prints a table of times: each line is one job on the same input, done by the proved code and by the reference in turn.
 //! The sides alternate, results are compared every round, and the ratio is that of the medians.
 
+use std::collections::HashSet;
 use std::fs::{self, File};
 use std::hint::black_box;
 use std::path::Path;
 use std::process::{Command, Stdio};
 use std::time::Instant;
 
-use conformance::{close, order, reference_run, turn, Call, Calls};
+use conformance::{close, order, order_line, reference_open, reference_run, turn, Call, Calls, Orders, REFUSED};
 use reference::generate::Rng;
-use reference::layout::{layout, Prices, MAX_PRICE};
+use reference::layout::{label_of, layout, Prices, MAX_PRICE};
 use reference::listing;
-use reference::phase::{Activity, Phase};
+use reference::phase::{Activity, Order, Phase};
 
 /// Seconds of the median round of each side.
 fn alternate(rounds: usize, mut ours: impl FnMut() -> f64, mut theirs: impl FnMut() -> f64) -> (f64, f64) {
@@ -95,8 +96,8 @@ fn at_rest() {
     }
 }
 
-/// A shift of sixteen workers on 4,096 cells, about 60 % full, recorded once: orders, and turns as chance deals them.
-fn recorded(kind: u64) -> (Vec<u64>, Vec<Call>) {
+/// A shift of sixteen workers on 4,096 cells, about 60 % full, recorded once: its list, and orders and turns as chance deals them.
+fn recorded(kind: u64) -> (Vec<u64>, Vec<Order>, Vec<Call>) {
     let mut random = Rng::new(kind);
     let mut set = Prices::new();
     while set.len() < if kind == 1 { 1200 } else { 2500 } {
@@ -106,17 +107,19 @@ fn recorded(kind: u64) -> (Vec<u64>, Vec<Call>) {
     let opening = layout(4096, &set);
     let known: Vec<u32> = set.into_keys().collect();
     let mut table = opening.clone();
-    let mut phase = Phase::open(kind, 16, &table).expect("a sound table");
+    // The list is made on the way, so that each line is for the worker whose turn it is; an opening with a list leaves the same record.
+    let mut phase = Phase::open(kind, 16, &table, &[]).expect("a sound table");
+    let mut list = Vec::new();
     let mut calls = Vec::new();
-    let mut orders = 0;
     while calls.len() < 60_000 {
         let worker = random.below(16) as u32;
-        if phase.workers[worker as usize] == Activity::Idle && orders < 2000 {
+        if phase.workers[worker as usize] == Activity::Idle && list.len() < 2000 {
             let key = if kind == 1 { random.below(u32::MAX as usize) as u32 + 1 } else { known[random.below(known.len())] };
-            phase.order(worker.into(), key, price(key)).expect("an order");
-            calls.push(order(worker, key, price(key)));
-            orders += 1;
-        } else if orders == 2000 && phase.all_idle() {
+            let line = list.len() as u32;
+            list.push(Order { worker, label: key, price: price(key) });
+            phase.order(&list, line.into(), worker.into(), key).expect("an order");
+            calls.push(if kind == 1 { order_line(line) } else { order(worker, key) });
+        } else if list.len() == 2000 && phase.all_idle() {
             break;
         } else {
             phase.turn(&mut table, worker.into()).expect("a turn");
@@ -124,14 +127,14 @@ fn recorded(kind: u64) -> (Vec<u64>, Vec<Call>) {
         }
     }
     calls.push(close());
-    (opening, calls)
+    (opening, list, calls)
 }
 
 fn turns() {
-    type Run = fn(&Calls, u64, u64, &mut [u64], &mut [u64]) -> u64;
+    type Run = fn(&Calls, u64, u64, &mut [u64], &Orders, &mut [u64]) -> u64;
     for (kind, name) in [(1, "put in"), (2, "take out"), (3, "look up")] {
-        let (opening, calls) = recorded(kind);
-        let list = Calls::of(&calls);
+        let (opening, orders, calls) = recorded(kind);
+        let (list, lent) = (Calls::of(&calls), Orders::of(&orders));
         for (run, how) in [(Calls::run_singly as Run, "one call by value"), (Calls::run, "batch of calls")] {
             let (mut ours, mut theirs) = (opening.clone(), opening.clone());
             let (mut said, mut expected) = (vec![0; calls.len()], vec![0; calls.len()]);
@@ -139,11 +142,11 @@ fn turns() {
                 61,
                 || {
                     ours.copy_from_slice(&opening);
-                    seconds(|| assert_eq!(run(&list, kind, 16, &mut ours, &mut said), 0))
+                    seconds(|| assert_eq!(run(&list, kind, 16, &mut ours, &lent, &mut said), 0))
                 },
                 || {
                     theirs.copy_from_slice(&opening);
-                    seconds(|| assert_eq!(reference_run(kind, 16, &mut theirs, &calls, &mut expected), 0))
+                    seconds(|| assert_eq!(reference_run(kind, 16, &mut theirs, &orders, &calls, &mut expected), 0))
                 },
             );
             assert_eq!((ours, said), (theirs, expected));
@@ -153,20 +156,84 @@ fn turns() {
     }
 }
 
+/// Different labels: at random, in steps of 100, or with products by 2654435769 modulo 2 to the 32 that begin with the same 14 bits.
+fn labels(family: &str, count: u32) -> Vec<u32> {
+    const INVERSE: u32 = 340_573_321;
+    assert_eq!(INVERSE.wrapping_mul(2_654_435_769), 1);
+    match family {
+        "in steps of 100" => (1..=count).map(|i| 100 * i).collect(),
+        "against the multiplier" => (0..count).map(|i| (0x8000_0000 + i).wrapping_mul(INVERSE)).collect(),
+        _ => {
+            let mut random = Rng::new(13);
+            let mut known = HashSet::new();
+            let drawn = std::iter::repeat_with(|| random.below(u32::MAX as usize) as u32 + 1);
+            drawn.filter(|&label| known.insert(label)).take(count as usize).collect()
+        }
+    }
+}
+
+/// Whether the labels of table and list together are fewer than the cells, by the standard library's set.
+fn room_by_set(table: &[u64], list: &[Order]) -> bool {
+    let mut set: HashSet<u32> = table.iter().map(|&cell| label_of(cell)).filter(|&label| label != 0).collect();
+    list.iter().all(|order| {
+        set.insert(order.label);
+        set.len() < table.len()
+    })
+}
+
+/// An opening on 8,192 cells with a list of 65,536 lines, in both forms of the list: beside the reference's, and beside the count alone by a set.
+fn opening(case: &str, kind: u64, standing: &[u32], sent: &[u32], opens: bool) {
+    let set: Prices = standing.iter().map(|&label| (label, price(label))).collect();
+    let mut table = layout(8192, &set);
+    let listed = |(i, &label): (u32, &u32)| Order { worker: i % 16, label, price: price(label) };
+    let list: Vec<Order> = (0..65_536).zip(sent.iter().cycle()).map(listed).collect();
+    let (lent, none) = (Orders::of(&list), Calls::default());
+    let answer = if opens { 0 } else { REFUSED + 9 };
+    let reference = |table: &[u64]| seconds(|| assert_eq!(reference_open(kind, 16, black_box(table), black_box(&list)), answer));
+    let structs = |table: &[u64]| seconds(|| assert_eq!(lent.open(kind, 16, black_box(table)), answer));
+    let parallel = |table: &mut [u64]| seconds(|| assert_eq!(none.run(kind, 16, black_box(table), &lent, &mut []), answer));
+    let set = |table: &[u64]| seconds(|| assert_eq!(room_by_set(black_box(table), black_box(&list)), opens));
+    line(&format!("opening, {case}"), "µs", 1e6, alternate(31, || structs(&table), || reference(&table)));
+    if kind == 1 {
+        line(&format!("opening beside a set, {case}"), "µs", 1e6, alternate(31, || structs(&table), || set(&table)));
+    }
+    let copy = table.clone();
+    line(&format!("opening with three lists, {case}"), "µs", 1e6, alternate(31, || parallel(&mut table), || reference(&copy)));
+}
+
+fn openings() {
+    for family in ["at random", "in steps of 100", "against the multiplier"] {
+        let all = labels(family, 65_536);
+        let standing = &all[..8191];
+        opening(&format!("assortment sent again, labels {family}"), 1, standing, standing, true);
+        opening(&format!("all new, labels {family}"), 1, &[], &all, false);
+    }
+    let all = labels("at random", 65_536);
+    opening("look up, the list is not read", 3, &all[..8191], &all, true);
+}
+
 /// A sheet of about a million turns, dealt by `turn` lines and by `run`.
 fn sheet(by_run: bool) -> Vec<u8> {
     let mut random = Rng::new(11);
-    let mut text = b"cells\t4096\nopen\t1\t16\n".to_vec();
+    let mut text = b"cells\t4096\n".to_vec();
     let mut known = Vec::new();
-    for _ in 0..220 {
-        for worker in 0..16 {
+    // 3,520 labels in four shifts: a list takes 1,024 items
+    for _ in 0..4 {
+        let mut orders = Vec::new();
+        for place in 0..880 {
             let key = random.below(u32::MAX as usize) as u32 + 1;
             known.push(key);
-            text.extend(format!("order\t{worker}\t{key}\t{}\n", price(key)).bytes());
+            text.extend(format!("item\t{}\t{key}\t{}\n", place % 16, price(key)).bytes());
+            orders.extend(format!("order\t{place}\n").bytes());
+            if place % 16 == 15 {
+                orders.extend(b"run\n");
+            }
         }
-        text.extend(b"run\n");
+        text.extend(b"open\t1\t16\n");
+        text.extend(orders);
+        text.extend(b"close\n");
     }
-    text.extend(b"close\nopen\t3\t16\n");
+    text.extend(b"open\t3\t16\n");
     let mut lines = text.iter().filter(|&&b| b == b'\n').count();
     while lines < 1_000_000 {
         for worker in 0..16 {
@@ -217,5 +284,6 @@ fn main() {
     println!("| job | proved | reference | ratio |\n|---|---|---|---|");
     replays(&target);
     turns();
+    openings();
     at_rest();
 }

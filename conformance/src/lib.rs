@@ -1,26 +1,64 @@
 //! Safe wrappers of the exported functions of crate `exports`, and their answers in the reference's terms.
 
-use reference::phase::{Answer, Phase};
+use reference::phase::{Answer, Order, Phase};
 
 mod raw {
+    /// A line of the list of orders, as C lays it out.
+    #[repr(C)]
+    pub struct Order {
+        pub key: u32,
+        pub price: u32,
+        pub worker: u32,
+    }
+
+    pub type RunCalls = unsafe extern "C" fn(
+        kind: u64,
+        count: u64,
+        cells: *mut u64,
+        length: usize,
+        order_keys: *const u32,
+        order_keys_length: usize,
+        order_prices: *const u32,
+        order_prices_length: usize,
+        order_workers: *const u32,
+        order_workers_length: usize,
+        ops: *const u32,
+        ops_length: usize,
+        lines: *const u32,
+        lines_length: usize,
+        workers: *const u32,
+        workers_length: usize,
+        keys: *const u32,
+        keys_length: usize,
+        answers: *mut u64,
+        answers_length: usize,
+    ) -> u64;
+
     extern "C" {
         pub fn vulzegan_check(cells: *const u64, length: usize) -> u64;
         pub fn vulzegan_count(cells: *const u64, length: usize) -> u64;
         pub fn vulzegan_list(cells: *const u64, length: usize, out: *mut u64, room: usize) -> u64;
+        pub fn vulzegan_open(kind: u64, count: u64, cells: *const u64, length: usize, orders: *const Order, orders_length: usize) -> u64;
         #[allow(clippy::too_many_arguments)]
         pub fn vulzegan_run_calls(
             kind: u64,
             count: u64,
             cells: *mut u64,
             length: usize,
+            order_keys: *const u32,
+            order_keys_length: usize,
+            order_prices: *const u32,
+            order_prices_length: usize,
+            order_workers: *const u32,
+            order_workers_length: usize,
             ops: *const u32,
             ops_length: usize,
+            lines: *const u32,
+            lines_length: usize,
             workers: *const u32,
             workers_length: usize,
             keys: *const u32,
             keys_length: usize,
-            prices: *const u32,
-            prices_length: usize,
             answers: *mut u64,
             answers_length: usize,
         ) -> u64;
@@ -30,14 +68,20 @@ mod raw {
             count: u64,
             cells: *mut u64,
             length: usize,
+            order_keys: *const u32,
+            order_keys_length: usize,
+            order_prices: *const u32,
+            order_prices_length: usize,
+            order_workers: *const u32,
+            order_workers_length: usize,
             ops: *const u32,
             ops_length: usize,
+            lines: *const u32,
+            lines_length: usize,
             workers: *const u32,
             workers_length: usize,
             keys: *const u32,
             keys_length: usize,
-            prices: *const u32,
-            prices_length: usize,
             answers: *mut u64,
             answers_length: usize,
         ) -> u64;
@@ -70,88 +114,111 @@ pub fn list(cells: &[u64], out: &mut [u64]) -> Result<usize, u8> {
     value(unsafe { raw::vulzegan_list(cells.as_ptr(), cells.len(), out.as_mut_ptr(), out.len()) })
 }
 
+/// A list of orders in the two forms that the library takes: three lists, as many lines as the shortest of them has, and one of structs.
+pub struct Orders {
+    pub keys: Vec<u32>,
+    pub prices: Vec<u32>,
+    pub workers: Vec<u32>,
+    structs: Vec<raw::Order>,
+}
+
+impl Orders {
+    pub fn of(orders: &[Order]) -> Orders {
+        Orders {
+            keys: orders.iter().map(|o| o.label).collect(),
+            prices: orders.iter().map(|o| o.price).collect(),
+            workers: orders.iter().map(|o| o.worker).collect(),
+            structs: orders.iter().map(|o| raw::Order { key: o.label, price: o.price, worker: o.worker }).collect(),
+        }
+    }
+
+    /// The answer of the opening with the list of structs.
+    pub fn open(&self, kind: u64, count: u64, cells: &[u64]) -> u64 {
+        unsafe { raw::vulzegan_open(kind, count, cells.as_ptr(), cells.len(), self.structs.as_ptr(), self.structs.len()) }
+    }
+}
+
 /// One call of a list, as four numbers: 1 order, 2 turn, anything else close.
 #[derive(Clone, Copy, Debug, PartialEq, Eq)]
 pub struct Call {
     pub op: u32,
+    pub line: u32,
     pub worker: u32,
     pub key: u32,
-    pub price: u32,
 }
 
-pub fn order(worker: u32, key: u32, price: u32) -> Call {
-    Call { op: 1, worker, key, price }
+/// An order of a put-in shift.
+pub fn order_line(line: u32) -> Call {
+    Call { op: 1, line, worker: 0, key: 0 }
+}
+
+/// An order of the other shifts.
+pub fn order(worker: u32, key: u32) -> Call {
+    Call { op: 1, line: 0, worker, key }
 }
 
 pub fn turn(worker: u32) -> Call {
-    Call { op: 2, worker, key: 0, price: 0 }
+    Call { op: 2, line: 0, worker, key: 0 }
 }
 
 pub fn close() -> Call {
-    Call { op: 3, worker: 0, key: 0, price: 0 }
+    Call { op: 3, line: 0, worker: 0, key: 0 }
 }
 
 /// A list of calls as the library takes it: as many calls as the shortest of these has.
 #[derive(Default)]
 pub struct Calls {
     pub ops: Vec<u32>,
+    pub lines: Vec<u32>,
     pub workers: Vec<u32>,
     pub keys: Vec<u32>,
-    pub prices: Vec<u32>,
 }
 
 impl Calls {
     pub fn of(calls: &[Call]) -> Calls {
         Calls {
             ops: calls.iter().map(|c| c.op).collect(),
+            lines: calls.iter().map(|c| c.line).collect(),
             workers: calls.iter().map(|c| c.worker).collect(),
             keys: calls.iter().map(|c| c.key).collect(),
-            prices: calls.iter().map(|c| c.price).collect(),
         }
     }
 
-    /// Opens a phase and applies the calls; the opening's answer.
-    pub fn run(&self, kind: u64, count: u64, cells: &mut [u64], answers: &mut [u64]) -> u64 {
+    fn run_by(&self, run: raw::RunCalls, kind: u64, count: u64, cells: &mut [u64], orders: &Orders, answers: &mut [u64]) -> u64 {
         unsafe {
-            raw::vulzegan_run_calls(
+            run(
                 kind,
                 count,
                 cells.as_mut_ptr(),
                 cells.len(),
+                orders.keys.as_ptr(),
+                orders.keys.len(),
+                orders.prices.as_ptr(),
+                orders.prices.len(),
+                orders.workers.as_ptr(),
+                orders.workers.len(),
                 self.ops.as_ptr(),
                 self.ops.len(),
+                self.lines.as_ptr(),
+                self.lines.len(),
                 self.workers.as_ptr(),
                 self.workers.len(),
                 self.keys.as_ptr(),
                 self.keys.len(),
-                self.prices.as_ptr(),
-                self.prices.len(),
                 answers.as_mut_ptr(),
                 answers.len(),
             )
         }
+    }
+
+    /// Opens a phase with the list of orders and applies the calls; the opening's answer.
+    pub fn run(&self, kind: u64, count: u64, cells: &mut [u64], orders: &Orders, answers: &mut [u64]) -> u64 {
+        self.run_by(raw::vulzegan_run_calls, kind, count, cells, orders, answers)
     }
 
     /// The same, each call by value with the record tested at each.
-    pub fn run_singly(&self, kind: u64, count: u64, cells: &mut [u64], answers: &mut [u64]) -> u64 {
-        unsafe {
-            raw::vulzegan_run_calls_singly(
-                kind,
-                count,
-                cells.as_mut_ptr(),
-                cells.len(),
-                self.ops.as_ptr(),
-                self.ops.len(),
-                self.workers.as_ptr(),
-                self.workers.len(),
-                self.keys.as_ptr(),
-                self.keys.len(),
-                self.prices.as_ptr(),
-                self.prices.len(),
-                answers.as_mut_ptr(),
-                answers.len(),
-            )
-        }
+    pub fn run_singly(&self, kind: u64, count: u64, cells: &mut [u64], orders: &Orders, answers: &mut [u64]) -> u64 {
+        self.run_by(raw::vulzegan_run_calls_singly, kind, count, cells, orders, answers)
     }
 }
 
@@ -171,15 +238,20 @@ fn told(answer: Answer) -> u64 {
     }
 }
 
-/// The same by the reference.
-pub fn reference_run(kind: u64, count: u64, cells: &mut [u64], calls: &[Call], answers: &mut [u64]) -> u64 {
-    let mut phase = match Phase::open(kind, count, cells) {
+/// The opening's answer by the reference.
+pub fn reference_open(kind: u64, count: u64, cells: &[u64], orders: &[Order]) -> u64 {
+    Phase::open(kind, count, cells, orders).map_or_else(refused, |_| 0)
+}
+
+/// The opening and the calls by the reference.
+pub fn reference_run(kind: u64, count: u64, cells: &mut [u64], orders: &[Order], calls: &[Call], answers: &mut [u64]) -> u64 {
+    let mut phase = match Phase::open(kind, count, cells, orders) {
         Err(number) => return refused(number),
         Ok(phase) => phase,
     };
     for (call, place) in calls.iter().zip(answers) {
         *place = match call.op {
-            1 => phase.order(call.worker.into(), call.key, call.price).map_or_else(refused, |()| 0),
+            1 => phase.order(orders, call.line.into(), call.worker.into(), call.key).map_or_else(refused, |()| 0),
             2 => phase.turn(cells, call.worker.into()).map_or_else(refused, told),
             _ => phase.close().map_or_else(refused, |()| 0),
         };

@@ -1,16 +1,23 @@
-//! The exported functions against the reference, on sound, damaged and oversized tables and on lists of calls.
+//! The exported functions against the reference, on sound, damaged and oversized tables, on lists of orders and on lists of calls.
+//!
+//! The library lends the list of the opening to every order call: what an altered list does is not reached from here.
 
-use conformance::{check, close, count, list, order, reference_run, turn, Call, Calls, REFUSED, WORDS};
-use reference::generate::{price, Rng, WRONG_PRICES};
+use conformance::{check, close, count, list, order, order_line, reference_open, reference_run, turn, Call, Calls, Orders, REFUSED, WORDS};
+use reference::generate::{orders, price, spoil, Rng, WRONG_PRICES};
 use reference::layout::{content, label_of, layout, price_of, Prices, MAX_PRICE};
 use reference::listing;
-use reference::phase::{Activity, Phase, PUT_IN, TAKE_OUT};
+use reference::phase::{Activity, Order, Phase, PUT_IN, TAKE_OUT};
 
 /// What stands in lent places before a call.
 const MARK: u64 = 0xDEAD_BEEF_DEAD_BEEF;
 
 /// A label and its price, as an order has them.
 type Entry = (u32, u32);
+
+/// A line of a list of orders.
+fn put(worker: u32, label: u32, price: u32) -> Order {
+    Order { worker, label, price }
+}
 
 /// A sound table: some labels, crowded at few homes or spread, each with a price.
 fn table(random: &mut Rng, cells: usize) -> Vec<u64> {
@@ -105,20 +112,24 @@ fn wrong_cells() {
     }
 }
 
-/// The batch, the calls one by one and the reference run the calls; answers and tables are the same.
-fn same_run(kind: u64, crew: u64, table: &[u64], calls: &[Call]) -> Vec<u64> {
-    same_run_of(kind, crew, table, calls, &Calls::of(calls), calls.len() + 2)
+/// The opening, alone and before a batch of calls or calls one by one, and the calls: answers and tables are those of the reference.
+fn same_run(kind: u64, crew: u64, table: &[u64], orders: &[Order], calls: &[Call]) -> Vec<u64> {
+    same_run_of(kind, crew, table, (orders, &Orders::of(orders)), (calls, &Calls::of(calls)), calls.len() + 2)
 }
 
-/// The same for a list that amounts to these calls, and for so many places for answers.
-fn same_run_of(kind: u64, crew: u64, table: &[u64], calls: &[Call], list: &Calls, places: usize) -> Vec<u64> {
+/// The same for lists that amount to these orders and these calls, and for so many places for answers.
+fn same_run_of(kind: u64, crew: u64, table: &[u64], orders: (&[Order], &Orders), calls: (&[Call], &Calls), places: usize) -> Vec<u64> {
     let mut expected = (vec![MARK; places], table.to_vec());
-    let opening = reference_run(kind, crew, &mut expected.1, calls, &mut expected.0);
-    for (run, name) in [(Calls::run as fn(&Calls, u64, u64, &mut [u64], &mut [u64]) -> u64, "batch"), (Calls::run_singly, "one by one")] {
+    let opening = reference_run(kind, crew, &mut expected.1, orders.0, calls.0, &mut expected.0);
+    // told where an answer differs; of a long list the front
+    let told = || format!("{kind} {crew} {table:?}, {} orders {:?}, {:?}", orders.0.len(), &orders.0[..orders.0.len().min(100)], calls.0);
+    assert_eq!(orders.1.open(kind, crew, table), opening, "opening alone: {}", told());
+    type Run = fn(&Calls, u64, u64, &mut [u64], &Orders, &mut [u64]) -> u64;
+    for (run, name) in [(Calls::run as Run, "batch"), (Calls::run_singly, "one by one")] {
         let mut ours = (vec![MARK; places], table.to_vec());
-        assert_eq!(run(list, kind, crew, &mut ours.1, &mut ours.0), opening, "opening {kind} {crew} {table:?}, {name}");
-        assert_eq!(ours.0, expected.0, "answers of {kind} {crew} {table:?} {calls:?}, {name}");
-        assert_eq!(ours.1, expected.1, "table after {kind} {crew} {table:?} {calls:?}, {name}");
+        assert_eq!(run(calls.1, kind, crew, &mut ours.1, orders.1, &mut ours.0), opening, "opening, {name}: {}", told());
+        assert_eq!(ours.0, expected.0, "answers, {name}: {}", told());
+        assert_eq!(ours.1, expected.1, "table, {name}: {}", told());
     }
     expected.1
 }
@@ -137,35 +148,169 @@ fn numbers_of_the_header() {
     for (n, name) in [(1, "WENT_ON"), (2, "FINISHED"), (4, "NO"), (5, "IDLE")] {
         assert_eq!(meaning(&format!("VULZEGAN_{name}")), format!("(VULZEGAN_WORDS + {n})"));
     }
-    let functions: Vec<&str> = header.lines().filter(|l| l.contains(" vulzegan_")).collect();
-    assert!(functions.len() == 5 && functions.iter().all(|l| l.starts_with("uint64_t vulzegan_")), "{functions:?}");
+    assert!(header.contains("VULZEGAN_REFUSED + the number of documents 01 and 02, 1 to 16."));
+    let functions: Vec<&str> = header.lines().filter(|l| l.contains(" vulzegan_") && l.contains('(')).collect();
+    assert!(functions.len() == 6 && functions.iter().all(|l| l.starts_with("uint64_t vulzegan_")), "{functions:?}");
+    let text = header.split_whitespace().collect::<Vec<_>>().join(" ");
     for (list, times) in [
         ("(const uint64_t *cells, size_t cells_len", 3),
-        (" uint64_t *cells, size_t cells_len, const uint32_t *ops, size_t ops_len,", 2),
         ("uint64_t *out, size_t out_len);", 1),
-        ("const uint32_t *workers, size_t workers_len, const uint32_t *keys, size_t keys_len,", 2),
-        ("const uint32_t *prices, size_t prices_len, uint64_t *answers, size_t answers_len);", 2),
+        ("struct vulzegan_order { uint32_t key; uint32_t price; uint32_t worker; };", 1),
+        ("(uint64_t kind, uint64_t count, const uint64_t *cells, size_t cells_len, const struct vulzegan_order *orders, size_t orders_len);", 1),
+        ("(uint64_t kind, uint64_t count, uint64_t *cells, size_t cells_len, const uint32_t *order_keys, size_t order_keys_len,", 2),
+        ("const uint32_t *order_prices, size_t order_prices_len, const uint32_t *order_workers, size_t order_workers_len,", 2),
+        ("const uint32_t *ops, size_t ops_len, const uint32_t *lines, size_t lines_len,", 2),
+        ("const uint32_t *workers, size_t workers_len, const uint32_t *keys, size_t keys_len, uint64_t *answers, size_t answers_len);", 2),
     ] {
-        assert_eq!(header.matches(list).count(), times, "{list}");
+        assert_eq!(text.matches(list).count(), times, "{list}");
     }
     assert!(!header.contains("VULZEGAN_YES"));
 }
+
+// ---- openings
 
 #[test]
 fn openings_at_the_limits() {
     for cells in [0, 1, 2, 8192, 8193] {
         for crew in [0, 1, 16, 17, 1 << 40] {
             for kind in [0, 1, 2, 3, 4, 4_000_000_000] {
-                same_run(kind, crew, &vec![0; cells], &[order(0, 5, 1), turn(0), close()]);
+                for list in [&[][..], &[put(0, 5, 1)], &[put(1, 0, 0)]] {
+                    same_run(kind, crew, &vec![0; cells], list, &[Call { op: 1, line: 0, worker: 0, key: 5 }, turn(0), close()]);
+                }
             }
         }
     }
     for labels in [[0, 0, 0, 8, 13], [0, 0, 0, 3, 3], [6, 0, 0, 0, 0], [5, 6, 7, 8, 9]] {
-        same_run(1, 1, &labels.map(|x| if x == 0 { 0 } else { content(x, 1) }), &[order(0, 1, 1)]);
+        same_run(1, 1, &labels.map(|x| if x == 0 { 0 } else { content(x, 1) }), &[put(0, 1, 1)], &[order_line(0)]);
     }
     for cell in [1, MAX_PRICE.into(), content(8, 0), content(8, MAX_PRICE), content(8, MAX_PRICE + 1), content(8, u32::MAX)] {
         for kind in 1..=3 {
-            same_run(kind, 1, &[0, 0, 0, cell, 0], &[order(0, 8, 1), turn(0), turn(0), turn(0), turn(0)]);
+            let calls = [Call { op: 1, line: 0, worker: 0, key: 8 }, turn(0), turn(0), turn(0), turn(0)];
+            same_run(kind, 1, &[0, 0, 0, cell, 0], &[put(0, 8, 1)], &calls);
+        }
+    }
+}
+
+/// Each refusal of the opening with all that come after it due too.
+#[test]
+fn openings_refuse_in_order() {
+    let refused = |kind, crew, table: &[u64], list: &[Order], number: u64| {
+        same_run(kind, crew, table, list, &[]);
+        assert_eq!(reference_open(kind, crew, table, list), REFUSED + number, "{kind} {crew} {table:?}");
+    };
+    let long = vec![put(9, 0, 0); 65_537];
+    let unsound = [content(1, 1), content(1, 1)];
+    for kind in [0, 1, 4] {
+        refused(kind, 0, &unsound[..1], &long, 1);
+        refused(kind, 0, &unsound, &long, 2);
+    }
+    refused(0, 1, &unsound, &long, 3);
+    refused(4, 1, &unsound, &long, 3);
+    refused(1, 1, &unsound, &long, 16);
+    refused(1, 1, &unsound, &long[1..], 4);
+    let full = [put(0, 1, 1), put(0, 2, 1), put(0, 3, 1)];
+    let bad = [(put(9, 0, 0), 7), (put(9, 5, 0), 14), (put(9, 5, 1), 6)];
+    for (first, number) in bad {
+        for (second, _) in bad {
+            for place in 0..=full.len() {
+                let mut list = full.to_vec();
+                list.insert(place, first);
+                list.push(second);
+                refused(1, 1, &[0, content(7, 1)], &list, number);
+            }
+        }
+    }
+    refused(1, 1, &[0, content(7, 1)], &full, 9);
+}
+
+/// The two-cell table with 7 opens for 7 alone; kinds 2 and 3 open for any list.
+#[test]
+fn two_cells_with_7() {
+    let table = [0, content(7, 5)];
+    for (list, full) in [
+        (vec![], 0),
+        (vec![put(0, 7, 1)], 0),
+        (vec![put(0, 7, 9); 3], 0),
+        (vec![put(0, 1, 1)], REFUSED + 9),
+        (vec![put(0, 8, 1)], REFUSED + 9),
+        (vec![put(0, 7, 1), put(0, u32::MAX, 1)], REFUSED + 9),
+    ] {
+        assert_eq!(Orders::of(&list).open(1, 1, &table), full);
+        for kind in 1..=3 {
+            same_run(kind, 1, &table, &list, &[order_line(0), turn(0), turn(0), turn(0), close()]);
+        }
+    }
+}
+
+/// Every list of up to three lines of a few labels, prices and workers, on every sound table of three cells and labels 1 to 3.
+#[test]
+fn all_small_openings() {
+    let lines: Vec<Order> = [put(0, 0, 1), put(0, 1, 0), put(1, 1, 1)].into_iter().chain((1..=4).map(|label| put(0, label, 1))).collect();
+    let mut lists = vec![vec![]];
+    for length in 0..3 {
+        let longer = |list: &Vec<Order>| lines.iter().map(|&line| [&list[..], &[line]].concat()).collect::<Vec<_>>();
+        let longest = lists.iter().filter(|list| list.len() == length).flat_map(longer).collect::<Vec<_>>();
+        lists.extend(longest);
+    }
+    assert_eq!(lists.len(), 1 + 7 + 49 + 343);
+    for table in tables(3, 3, &[1]) {
+        for list in &lists {
+            for kind in 1..=3 {
+                same_run(kind, 1, &table, list, &[]);
+            }
+        }
+    }
+}
+
+/// The labels of a list, by the ways in which a count of them may go wrong: near each other, in steps, at one place under a multiplier.
+fn family(random: &mut Rng, which: usize, i: u32) -> u32 {
+    match which {
+        0 => 1 + i,
+        1 => 100 * (1 + i),
+        2 => u32::MAX - i,
+        3 => (1 + i) << 16,
+        // the inverse of 2654435769: all products by that number begin with the same bits
+        4 => (0x8000_0000 + i).wrapping_mul(340_573_321),
+        _ => random.below(u32::MAX as usize) as u32 + 1,
+    }
+}
+
+/// Large tables and long lists, the labels together one fewer than the cells, as many and one more; bad lines at random places.
+#[test]
+fn long_lists() {
+    assert_eq!(340_573_321u32.wrapping_mul(2_654_435_769), 1);
+    let random = &mut Rng::new(6);
+    for round in 0..120 {
+        let cells = random.pick(&[2, 3, 63, 64, 65, 1000, 4096, 8191, 8192]);
+        let which = round % 6;
+        let standing = random.pick(&[0, cells / 2, cells - 1]);
+        let mut set = Prices::new();
+        let mut i = 0;
+        while set.len() < standing {
+            set.insert(family(random, which, i), price(random));
+            i += 1;
+        }
+        let table = layout(cells, &set);
+        let old: Vec<u32> = set.into_keys().collect();
+        for together in [cells - 1, cells, cells + 1] {
+            let mut labels = old.clone();
+            labels.extend((i..).take(together - standing).map(|i| family(random, which, i)));
+            let length = random.pick(&[labels.len(), 2 * labels.len(), 65_535, 65_536, 65_537]);
+            while labels.len() < length {
+                let label = random.pick(&labels);
+                labels.push(label);
+            }
+            random.shuffle(&mut labels);
+            let crew = random.within(1, 16);
+            let mut list: Vec<Order> = labels.into_iter().map(|label| put(random.below(crew) as u32, label, price(random))).collect();
+            for kind in 1..=3 {
+                same_run(kind, crew as u64, &table, &list, &[]);
+            }
+            for _ in 0..2 {
+                let place = random.below(list.len());
+                spoil(random, &mut list[place], crew);
+                same_run(1, crew as u64, &table, &list, &[]);
+            }
         }
     }
 }
@@ -174,22 +319,34 @@ fn openings_at_the_limits() {
 fn a_shift_without_orders_keeps_its_table() {
     let table = vec![content(4, 7), content(3, 1), 0, content(13, MAX_PRICE), content(8, 2)];
     for kind in 1..=3 {
-        assert_eq!(same_run(kind, 2, &table, &[close(), turn(0), close()]), table);
+        for list in [&[][..], &[put(0, 8, 1)]] {
+            assert_eq!(same_run(kind, 2, &table, list, &[close(), turn(0), close()]), table);
+        }
     }
 }
 
-/// 14 behind each refusal of an order that comes before it and before the one that comes after it; only put-ins are refused for a price.
+// ---- calls
+
+/// A line's price: right ones open, wrong ones do not; then the orders of each kind, each refusal of them that a list once accepted leaves.
 #[test]
-fn prices_of_orders() {
-    let one_room = vec![content(4, 2), 0, 0];
+fn prices_and_lines() {
+    let one_room = [0, content(4, 2), 0];
     for kind in 1..=3 {
         for price in [1, 2, 3, MAX_PRICE].into_iter().chain(WRONG_PRICES) {
-            // no worker, blank, right or not; then busy; then, with the one order used up, blank, a price, full
-            let calls = [order(2, 4, price), order(2, 0, price), order(0, 0, price), order(0, 4, price), order(0, 0, price), order(0, 4, price)];
-            let more = [order(1, 7, 1), order(1, 0, price), order(1, 7, price), order(2, 7, price), turn(0), turn(1), turn(0), turn(1), turn(0)];
-            let last =
-                [turn(1), turn(0), turn(1), turn(0), turn(1), turn(0), turn(1), order(0, 7, price), order(0, 0, price), close(), order(0, 7, price)];
-            same_run(kind, 2, &one_room, &[&calls[..], &more, &last].concat());
+            let list = [put(0, 4, price), put(1, 7, 1), put(0, 7, price)];
+            let opens = kind != 1 || !WRONG_PRICES.contains(&price);
+            assert_eq!(reference_open(kind, 2, &one_room, &list), if opens { 0 } else { REFUSED + 14 });
+            // past the list, then no worker or blank, then busy; where the handed worker and label are not read, they are wrong
+            let mut calls = vec![];
+            for line in [3, 4, u32::MAX, 0, 0, 2, 1, 1, 3] {
+                calls.extend([(2, 4), (2, 0), (0, 0), (0, 4), (u32::MAX, 7)].map(|(worker, key)| Call { op: 1, line, worker, key }));
+            }
+            for _ in 0..8 {
+                calls.extend([turn(0), turn(1)]);
+            }
+            calls.extend([Call { op: 1, line: 2, worker: 0, key: 7 }, close(), turn(0), turn(0), turn(0), turn(0), turn(0), close()]);
+            calls.extend([order_line(0), order_line(3), order(9, 0)]);
+            same_run(kind, 2, &one_room, &list, &calls);
         }
     }
 }
@@ -198,66 +355,97 @@ fn prices_of_orders() {
 #[test]
 fn the_shortest_list_decides() {
     let table = [0, 0, 0, content(8, 9), 0];
-    let calls = [order(0, 8, 3), order(1, 13, 2), turn(0), turn(1), turn(0), turn(1), turn(1), turn(1), turn(1), close()];
+    let orders = [put(0, 8, 3), put(1, 13, 2)];
+    let calls = [order_line(0), order_line(1), turn(0), turn(1), turn(0), turn(1), turn(1), turn(1), turn(1), close()];
     for short in 0..=calls.len() {
         for which in 0..5 {
             let mut list = Calls::of(&calls);
             let mut places = calls.len();
             match which {
                 0 => list.ops.truncate(short),
-                1 => list.workers.truncate(short),
-                2 => list.keys.truncate(short),
-                3 => list.prices.truncate(short),
+                1 => list.lines.truncate(short),
+                2 => list.workers.truncate(short),
+                3 => list.keys.truncate(short),
                 _ => places = short,
             }
-            same_run_of(1, 2, &table, &calls[..short], &list, places);
+            same_run_of(1, 2, &table, (&orders, &Orders::of(&orders)), (&calls[..short], &list), places);
         }
     }
 }
 
-/// The price of an order: mostly right.
-fn ordered_price(random: &mut Rng) -> u32 {
-    if random.once_in(10) {
-        random.pick(&WRONG_PRICES)
-    } else {
-        price(random)
+/// The same for the list of orders: behind the shortest nothing is read, neither a bad line nor a label too many.
+#[test]
+fn the_shortest_part_of_the_orders_decides() {
+    let table = [0, 0, 0, content(8, 9), 0];
+    let good = [put(0, 8, 3), put(1, 13, 2)];
+    for more in [put(0, 0, 0), put(9, 5, 1), put(0, 1, 1), put(0, 8, 0)] {
+        let orders = [good[0], good[1], more, put(0, 2, 1), put(0, 3, 1)];
+        for short in 0..=orders.len() {
+            for which in 0..3 {
+                let mut parts = Orders::of(&orders[..short]);
+                let longer = Orders::of(&orders);
+                if which != 0 {
+                    parts.keys = longer.keys;
+                }
+                if which != 1 {
+                    parts.prices = longer.prices;
+                }
+                if which != 2 {
+                    parts.workers = longer.workers;
+                }
+                let calls: Vec<Call> = (0..6).flat_map(|line| [order_line(line), turn(0), turn(0), turn(0), turn(1), turn(1)]).collect();
+                same_run_of(1, 2, &table, (&orders[..short], &parts), (&calls, &Calls::of(&calls)), calls.len());
+            }
+        }
     }
 }
 
-/// Turns to the workers in an order drawn at random, orders and closes between them, refused calls too.
+/// Turns to the workers in an order drawn at random, orders and closes between them, refused calls too. The lists send an assortment again,
+/// fill the table or overfill it, and some have bad lines.
 #[test]
 fn random_lists_of_calls() {
     let mut random = Rng::new(3);
+    let mut opened = 0;
     for _ in 0..20_000 {
         let cells = 2 + random.below(7);
-        let crew = 1 + random.below(4) as u64;
+        let crew = 1 + random.below(4);
         let kind = 1 + random.below(3) as u64;
         let table = table(&mut random, cells);
         let near = 3 * cells;
+        let mut list = orders(&mut random, &table, crew, near);
+        if !list.is_empty() && random.once_in(8) {
+            let place = random.below(list.len());
+            spoil(&mut random, &mut list[place], crew);
+        }
+        opened += u64::from(kind == 1 && reference_open(kind, crew as u64, &table, &list) == 0);
         let mut calls = Vec::new();
         for _ in 0..random.below(120) {
             let worker = match random.below(40) {
                 0 => u32::MAX - random.below(2) as u32,
                 1 => crew as u32,
-                _ => random.below(crew as usize) as u32,
+                _ => random.below(crew) as u32,
             };
-            calls.push(match random.below(12) {
-                0 => close(),
-                1 | 2 => {
-                    let known = label_of(table[random.below(cells)]);
-                    let label = if random.below(2) == 0 { known } else { random.below(near) as u32 };
-                    order(worker, label, ordered_price(&mut random))
-                }
-                _ => turn(worker),
-            });
+            let line = match random.below(20) {
+                0 => u32::MAX - random.below(2) as u32,
+                _ => random.below(list.len() + 2) as u32,
+            };
+            let known = label_of(table[random.below(cells)]);
+            let key = if random.below(2) == 0 { known } else { random.below(near) as u32 };
+            let op = match random.below(12) {
+                0 => random.pick(&[0, 3, 4, u32::MAX]),
+                1 | 2 => 1,
+                _ => 2,
+            };
+            calls.push(Call { op, line, worker, key });
         }
         // to the end: every worker finishes, then the close is accepted
         for _ in 0..400 {
             calls.extend((0..crew as u32).map(turn));
         }
         calls.push(close());
-        same_run(kind, crew, &table, &calls);
+        same_run(kind, crew as u64, &table, &list, &calls);
     }
+    assert!(opened > 3000, "{opened} put-in shifts opened");
 }
 
 // ---- closed tables
@@ -278,30 +466,35 @@ fn closed(kind: u32, table: &[u64], ordered: &[Entry]) -> Vec<u64> {
     layout(table.len(), &set)
 }
 
-/// The calls of a shift with these orders, dealt at random to a crew, from the opening to the close.
-fn dealt(random: &mut Rng, kind: u32, crew: u32, table: &[u64], orders: &[Entry]) -> Vec<Call> {
-    let mut phase = Phase::open(kind.into(), crew.into(), table).expect("a sound table");
+/// The calls of a shift with these orders, each for its worker, from the opening to the close: in put-in shifts by line, some twice.
+fn dealt(random: &mut Rng, kind: u32, crew: u32, table: &[u64], orders: &[Order]) -> Vec<Call> {
+    let mut phase = Phase::open(kind.into(), crew.into(), table, orders).expect("a sound table with room");
     let mut table = table.to_vec();
-    let mut orders = orders.iter().peekable();
+    let mut given = 0;
     let mut calls = Vec::new();
-    while orders.peek().is_some() || !phase.all_idle() {
-        let worker = random.below(crew as usize) as u32;
-        if phase.workers[worker as usize] != Activity::Idle {
-            phase.turn(&mut table, worker.into()).expect("a turn");
-            calls.push(turn(worker));
-        } else if let Some(&(label, price)) = orders.next() {
-            phase.order(worker.into(), label, price).expect("room for the order");
-            calls.push(order(worker, label, price));
+    while given < orders.len() || !phase.all_idle() {
+        let next = if given > 0 && given < orders.len() && random.once_in(8) { random.below(given) } else { given };
+        match orders.get(next) {
+            Some(o) if phase.workers[o.worker as usize] == Activity::Idle && random.once_in(2) => {
+                let call = if kind == PUT_IN { order_line(next as u32) } else { order(o.worker, o.label) };
+                phase.order(orders, call.line.into(), call.worker.into(), call.key).expect("an idle worker");
+                calls.push(call);
+                given += usize::from(next == given);
+            }
+            _ => {
+                let worker = random.below(crew as usize) as u32;
+                phase.turn(&mut table, worker.into()).expect("a turn");
+                calls.push(turn(worker));
+            }
         }
     }
     calls.push(close());
     calls
 }
 
-fn shuffle(random: &mut Rng, orders: &mut [Entry]) {
-    for i in 1..orders.len() {
-        orders.swap(i, random.below(i + 1));
-    }
+/// The orders of these entries, each for a worker drawn at random.
+fn for_workers(random: &mut Rng, crew: u32, entries: &[Entry]) -> Vec<Order> {
+    entries.iter().map(|&(label, price)| put(random.below(crew as usize) as u32, label, price)).collect()
 }
 
 /// Two shifts on one table with the same labels ordered and, for each, the same least price close on one table, whoever has the orders, in
@@ -319,27 +512,52 @@ fn equal_least_prices_close_alike() {
         let opening = layout(cells, &set);
         let room = cells - set.len() - 1;
         for kind in [PUT_IN, TAKE_OUT] {
-            let orders: Vec<Entry> = (0..=random.below(room)).map(|_| (1 + random.below(near) as u32, price(random))).collect();
+            let mut entries: Vec<Entry> = (0..=random.below(room)).map(|_| (1 + random.below(near) as u32, price(random))).collect();
+            // what stands there already takes no room
+            for &label in set.keys() {
+                if random.once_in(3) {
+                    entries.push((label, price(random)));
+                }
+            }
             let mut others = Vec::new();
             let mut known = Prices::new();
-            for &(label, price) in &orders {
+            for &(label, price) in &entries {
                 let least = known.get(&label).map_or(price, |&now| now.min(price));
                 known.insert(label, least);
             }
             others.extend(known);
-            while others.len() < room && !random.once_in(4) {
+            while !random.once_in(4) {
                 let (label, least) = random.pick(&others);
                 others.push((label, (least + random.below(3) as u32).min(MAX_PRICE)));
             }
-            shuffle(random, &mut others);
-            for orders in [&orders, &others] {
+            random.shuffle(&mut others);
+            for entries in [&entries, &others] {
                 let crew = 1 + random.below(5) as u32;
-                let calls = dealt(random, kind, crew, &opening, orders);
-                let left = same_run(kind.into(), crew.into(), &opening, &calls);
-                assert_eq!(left, closed(kind, &opening, &orders[..]), "{kind} {opening:?} {calls:?}");
+                let orders = for_workers(random, crew, entries);
+                let calls = dealt(random, kind, crew, &opening, &orders);
+                let left = same_run(kind.into(), crew.into(), &opening, &orders, &calls);
+                assert_eq!(left, closed(kind, &opening, entries), "{kind} {opening:?} {calls:?}");
             }
-            assert_eq!(closed(kind, &opening, &orders), closed(kind, &opening, &others));
+            assert_eq!(closed(kind, &opening, &entries), closed(kind, &opening, &others));
         }
+    }
+}
+
+/// A table with one empty cell, and its entire assortment sent again at other prices: it opens, and the lower prices stand.
+#[test]
+fn the_assortment_sent_again() {
+    let random = &mut Rng::new(7);
+    for cells in [2, 3, 5, 64, 100, 1000, 8192] {
+        let mut set = Prices::new();
+        while set.len() + 1 < cells {
+            set.insert(random.below(u32::MAX as usize) as u32 + 1, price(random));
+        }
+        let opening = layout(cells, &set);
+        let mut entries: Vec<Entry> = set.keys().map(|&label| (label, price(random))).collect();
+        random.shuffle(&mut entries);
+        let orders = for_workers(random, 16, &entries);
+        let calls = dealt(random, PUT_IN, 16, &opening, &orders);
+        assert_eq!(same_run(1, 16, &opening, &orders, &calls), closed(PUT_IN, &opening, &entries));
     }
 }
 
@@ -362,21 +580,24 @@ fn interleavings(phase: &Phase, table: &[u64], calls: &mut Vec<Call>, ended: &mu
     }
 }
 
-/// All interleavings of one order for each worker; how many there are, none if the orders are not all accepted.
-fn all_interleavings(kind: u32, table: &[u64], orders: &[Entry]) -> u64 {
-    let crew = orders.len() as u64;
-    let mut phase = Phase::open(kind.into(), crew, table).expect("a sound table");
+/// All interleavings of one order for each worker; how many there are, none if the table has no room for them.
+fn all_interleavings(kind: u32, table: &[u64], entries: &[Entry]) -> u64 {
+    let crew = entries.len() as u64;
+    let orders: Vec<Order> = (0..).zip(entries).map(|(worker, &(label, price))| put(worker, label, price)).collect();
+    let Ok(mut phase) = Phase::open(kind.into(), crew, table, &orders) else {
+        same_run(kind.into(), crew, table, &orders, &[]);
+        return 0;
+    };
     let mut calls = Vec::new();
-    for (worker, &(label, price)) in (0..).zip(orders) {
-        if phase.order(worker.into(), label, price).is_err() {
-            return 0;
-        }
-        calls.push(order(worker, label, price));
+    for o in &orders {
+        let call = if kind == PUT_IN { order_line(o.worker) } else { order(o.worker, o.label) };
+        phase.order(&orders, call.line.into(), call.worker.into(), call.key).expect("an idle worker");
+        calls.push(call);
     }
-    let expected = closed(kind, table, orders);
+    let expected = closed(kind, table, entries);
     let mut runs = 0;
     interleavings(&phase, table, &mut calls, &mut |calls| {
-        assert_eq!(same_run(kind.into(), crew, table, calls), expected, "{kind} {table:?} {calls:?}");
+        assert_eq!(same_run(kind.into(), crew, table, &orders, calls), expected, "{kind} {table:?} {calls:?}");
         runs += 1;
     });
     runs

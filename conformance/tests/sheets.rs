@@ -24,8 +24,14 @@ fn program() -> PathBuf {
 /// The greatest block that a pipe keeps apart from the next.
 const PACKET: usize = 4096;
 
-/// The longest readable line: an order with a price.
-const LONGEST: &[u8] = b"order\t4294967295\t4294967295\t4294967295";
+/// The longest readable line.
+const LONGEST: &[u8] = b"item\t4294967295\t4294967295\t4294967295";
+
+/// The longest readable order, in a shift that does not put in.
+const LONGEST_ORDER: &[u8] = b"order\t4294967295\t4294967295";
+
+/// The most items of a list.
+const ITEMS: usize = 1024;
 
 /// Bytes of a block: very few, around those that are kept of a line (one more than the longest readable line has), and a whole packet.
 const CUTS: [usize; 7] = [1, 2, 3, LONGEST.len(), LONGEST.len() + 1, LONGEST.len() + 2, PACKET];
@@ -119,7 +125,7 @@ fn stored_sheets() {
     let mut sheets: Vec<PathBuf> = fs::read_dir(folder).expect("the stored sheets").map(|e| e.expect("an entry").path()).collect();
     sheets.retain(|p| p.extension().is_some_and(|e| e == "sheet"));
     sheets.sort();
-    assert!(sheets.len() >= 30, "{} stored sheets", sheets.len());
+    assert!(sheets.len() >= 50, "{} stored sheets", sheets.len());
     for path in sheets {
         let input = fs::read(&path).expect("a sheet");
         let expected = fs::read(path.with_extension("out")).expect("its output");
@@ -135,11 +141,13 @@ fn long_and_strange_input() {
     let mut order_million = b"order\t".to_vec();
     order_million.extend(vec![b'1'; 1_000_000]);
     let mut after = order_million.clone();
-    after.extend(b"\ncells\t3\nopen\t1\t1\norder\t0\t2\t1\nrun\nclose\nlist\n");
-    let opened = b"cells\t3\nopen\t1\t16\n";
-    let longest = [opened, LONGEST, b"\n", LONGEST, b"\nlist\n"].concat();
-    let one_more = [opened, LONGEST, b"0\nlist\n"].concat();
-    let shut = [LONGEST, b"\n", LONGEST, b"0\nlist"].concat();
+    after.extend(b"\nitem\t0\t2\t1\ncells\t3\nopen\t1\t1\norder\t0\nrun\nclose\nlist\n");
+    let longest = [LONGEST, b"\n", LONGEST, b"\ncells\t3\nopen\t1\t16\nlist\n"].concat();
+    let one_more = [LONGEST, b"0\nlist\n"].concat();
+    let opened = b"cells\t3\nopen\t2\t16\n";
+    let longest_order = [opened, LONGEST_ORDER, b"\n", LONGEST_ORDER, b"\nlist\n"].concat();
+    let order_one_more = [opened, LONGEST_ORDER, b"0\nlist\n"].concat();
+    let shut = [LONGEST_ORDER, b"\n", LONGEST_ORDER, b"0\n", LONGEST_ORDER, b"\t4294967295\nlist"].concat();
     let many: Vec<u8> = b"cells\t4096\nopen\t1\t16\n".iter().copied().chain(b"turn\t3\n".repeat(300_000)).collect();
     for (name, input) in [
         ("no input", &b""[..]),
@@ -152,23 +160,53 @@ fn long_and_strange_input() {
         ("the same, and the sheet goes on", &after),
         ("the longest readable line", &longest),
         ("one byte more", &one_more),
-        ("the same in a shut shift", &shut),
+        ("the longest readable order", &longest_order),
+        ("one byte more", &order_one_more),
+        ("longer orders in a shut shift", &shut),
         ("300,000 turns", &many),
     ] {
         same_cut(name, input, &replay_bytes(input));
     }
 }
 
-/// Lines that put in keys with their prices by sixteen workers, sixteen orders to a run.
+/// Lines that put in keys with their prices by sixteen workers, sixteen orders to a run, in as few shifts as the items allow.
 fn put_in(text: &mut Vec<u8>, cells: usize, entries: impl Iterator<Item = (u32, u32)>) {
-    text.extend(format!("cells\t{cells}\nopen\t1\t16\n").bytes());
-    for (i, (key, price)) in entries.enumerate() {
-        text.extend(format!("order\t{}\t{key}\t{price}\n", i % 16).bytes());
-        if i % 16 == 15 {
-            text.extend(b"run\n");
+    text.extend(format!("cells\t{cells}\n").bytes());
+    for list in entries.collect::<Vec<_>>().chunks(ITEMS) {
+        for (i, (key, price)) in list.iter().enumerate() {
+            text.extend(format!("item\t{}\t{key}\t{price}\n", i % 16).bytes());
         }
+        text.extend(b"open\t1\t16\n");
+        for place in 0..list.len() {
+            text.extend(format!("order\t{place}\n").bytes());
+            if place % 16 == 15 {
+                text.extend(b"run\n");
+            }
+        }
+        text.extend(b"run\nclose\n");
     }
-    text.extend(b"run\nclose\n");
+}
+
+/// As many items as a list takes, and one more; in one go, around a refused opening, and again after a close.
+#[test]
+fn most_items() {
+    for (before, after) in [(ITEMS, 0), (ITEMS, 1), (ITEMS / 2, ITEMS / 2), (ITEMS / 2, ITEMS / 2 + 1), (1, ITEMS - 1), (1, ITEMS)] {
+        let items = |text: &mut Vec<u8>, count: usize| (0..count).for_each(|i| text.extend(format!("item\t{}\t7\t{}\n", i % 16, 1 + i).bytes()));
+        let mut text = b"cells\t2\n".to_vec();
+        for _ in 0..2 {
+            items(&mut text, before);
+            text.extend(b"open\t1\t17\nopen\t3\t1\nclose\n");
+            items(&mut text, after);
+            text.extend(b"open\t1\t16\n");
+            for place in [ITEMS, ITEMS - 1, 1, 0] {
+                text.extend(format!("order\t{place}\nrun\nlist\n").bytes());
+            }
+            text.extend(b"close\n");
+        }
+        let expected = replay_bytes(&text);
+        assert_eq!(expected.ends_with(b"\tbad\n"), before + after > ITEMS);
+        same_cut("many items", &text, &expected);
+    }
 }
 
 /// A table of 4,096 cells filled, listed and emptied: the longest output lines, with labels of ten digits and prices of seven.
@@ -284,7 +322,7 @@ fn closed_input() {
 /// Input that fails behind some lines; none of them is answered wrongly.
 #[test]
 fn input_that_breaks_off() {
-    let text = b"cells\t3\nopen\t1\t1\norder\t0\t2\t1\nrun\nclose\nlist\n";
+    let text = b"item\t0\t2\t1\ncells\t3\nopen\t1\t1\norder\t0\nrun\nclose\nlist\n";
     let (mut ours, mut theirs) = UnixStream::pair().expect("a pair of sockets");
     // our end is closed with a byte unread: the other end's reads fail once they have brought all that we wrote
     theirs.write_all(b"x").expect("a byte sent");

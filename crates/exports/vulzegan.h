@@ -22,7 +22,7 @@ extern "C" {
 /* Values: a count, the price that a find found, or VULZEGAN_ACCEPTED where a call gives no value and is not refused. */
 #define VULZEGAN_ACCEPTED UINT64_C(0)
 
-/* Refusals: VULZEGAN_REFUSED + the number of documents 01 and 02, 1 to 14. A refusal changes nothing. */
+/* Refusals: VULZEGAN_REFUSED + the number of documents 01 and 02, 1 to 16. A refusal changes nothing. */
 #define VULZEGAN_REFUSED UINT64_C(4294967296)
 
 /* Words: the answers of turns that are neither refused nor a price. */
@@ -41,22 +41,43 @@ uint64_t vulzegan_count(const uint64_t *cells, size_t cells_len);
 /* The same, and the cells that have a key, whole and in cell order, at the front of out. */
 uint64_t vulzegan_list(const uint64_t *cells, size_t cells_len, uint64_t *out, size_t out_len);
 
-/* The operations of a list of calls: an order of keys[i] for worker workers[i], a turn of worker workers[i], and a close.
- * In an insert phase the order is for keys[i] at prices[i]; in the others prices[i] is not read. Turns and closes read neither. */
+/* A line of the list of orders: key at price for worker. */
+struct vulzegan_order {
+    uint32_t key;
+    uint32_t price;
+    uint32_t worker;
+};
+
+/* Whether a phase of a kind (1 insert, 2 delete, 3 find) with count workers opens on cells: VULZEGAN_ACCEPTED or a refusal.
+ * An insert phase opens for a list of at most 65,536 orders, whose keys and those of the table, each counted once, are fewer than the cells.
+ * The other kinds do not read the list. Opening takes some 165 KB of stack, here and below. */
+uint64_t vulzegan_open(uint64_t kind, uint64_t count, const uint64_t *cells, size_t cells_len,
+                       const struct vulzegan_order *orders, size_t orders_len);
+
+/* The operations of a list of calls: an order, a turn of worker workers[i], and a close.
+ * In an insert phase the order is line lines[i] of the list of orders, counted from 0; a line may be ordered any number of times.
+ * In the others it is keys[i] for worker workers[i]. Neither reads what is meant for the other, turns read workers[i] alone, closes nothing. */
 enum { VULZEGAN_ORDER = 1, VULZEGAN_TURN = 2, VULZEGAN_CLOSE = 3 };
 
-/* Opens a phase of a kind (1 insert, 2 delete, 3 find) with count workers on cells: VULZEGAN_ACCEPTED or a refusal.
- * If it opens, applies calls 0, 1, .. in order, as many as the shortest of ops, workers, keys, prices and answers has.
+/* Opens a phase as vulzegan_open does, the list of orders lent as three lists: line i is order_keys[i] at order_prices[i] for worker
+ * order_workers[i], and there are as many lines as the shortest of the three has.
+ * If it opens, applies calls 0, 1, .. in order, as many as the shortest of ops, lines, workers, keys and answers has.
  * answers[i] takes the answer of call i: of an order or a close VULZEGAN_ACCEPTED or a refusal; of a turn a word, a refusal or,
  * where a find finishes and has found its key, the price of that key. */
-uint64_t vulzegan_run_calls(uint64_t kind, uint64_t count, uint64_t *cells, size_t cells_len, const uint32_t *ops, size_t ops_len,
+uint64_t vulzegan_run_calls(uint64_t kind, uint64_t count, uint64_t *cells, size_t cells_len,
+                            const uint32_t *order_keys, size_t order_keys_len, const uint32_t *order_prices, size_t order_prices_len,
+                            const uint32_t *order_workers, size_t order_workers_len,
+                            const uint32_t *ops, size_t ops_len, const uint32_t *lines, size_t lines_len,
                             const uint32_t *workers, size_t workers_len, const uint32_t *keys, size_t keys_len,
-                            const uint32_t *prices, size_t prices_len, uint64_t *answers, size_t answers_len);
+                            uint64_t *answers, size_t answers_len);
 
 /* The same, each call by value with the record tested at each, as single calls are: slower. */
-uint64_t vulzegan_run_calls_singly(uint64_t kind, uint64_t count, uint64_t *cells, size_t cells_len, const uint32_t *ops, size_t ops_len,
+uint64_t vulzegan_run_calls_singly(uint64_t kind, uint64_t count, uint64_t *cells, size_t cells_len,
+                                   const uint32_t *order_keys, size_t order_keys_len, const uint32_t *order_prices, size_t order_prices_len,
+                                   const uint32_t *order_workers, size_t order_workers_len,
+                                   const uint32_t *ops, size_t ops_len, const uint32_t *lines, size_t lines_len,
                                    const uint32_t *workers, size_t workers_len, const uint32_t *keys, size_t keys_len,
-                                   const uint32_t *prices, size_t prices_len, uint64_t *answers, size_t answers_len);
+                                   uint64_t *answers, size_t answers_len);
 
 #ifdef __cplusplus
 }

@@ -4,10 +4,14 @@
 //! several shifts on it, each ended by `run` and `close`, so an undamaged sheet
 //! is never `bad`. Some sheets are damaged afterwards. While writing, the
 //! generator replays the shift, to know who is busy and what the table holds;
-//! this only steers its choices.
+//! this only steers its choices. A put-in shift comes behind its items; where
+//! they don't open it, a shift of another kind takes its place and they stay.
+
+use std::collections::BTreeSet;
 
 use crate::layout::{label_of, MAX_PRICE};
-use crate::phase::{Activity, Phase, PUT_IN};
+use crate::phase::{Activity, Order, Phase, PUT_IN};
+use crate::refusal;
 
 /// A seeded xorshift generator.
 pub struct Rng(u64);
@@ -46,6 +50,12 @@ impl Rng {
     pub fn pick<T: Copy>(&mut self, from: &[T]) -> T {
         from[self.below(from.len())]
     }
+
+    pub fn shuffle<T>(&mut self, all: &mut [T]) {
+        for i in 1..all.len() {
+            all.swap(i, self.below(i + 1));
+        }
+    }
 }
 
 /// A price, often one of few, so that prices tie, fall and rise.
@@ -59,6 +69,57 @@ pub fn price(rng: &mut Rng) -> u32 {
 
 /// Prices that no label may have.
 pub const WRONG_PRICES: [u32; 5] = [0, MAX_PRICE + 1, MAX_PRICE + 2, u32::MAX - 1, u32::MAX];
+
+/// The labels of a table.
+fn labels_of(table: &[u64]) -> Vec<u32> {
+    let labels = table.iter().map(|&cell| label_of(cell));
+    labels.filter(|&label| label > 0).collect()
+}
+
+/// A list of orders for a put-in shift of `crew` workers on a table: its whole
+/// assortment, some of it, or new labels from 1 to `most`, in any order and
+/// with repeats. New ones fill the table often, and now and then overfill it.
+pub fn orders(rng: &mut Rng, table: &[u64], crew: usize, most: usize) -> Vec<Order> {
+    let mut labels = labels_of(table);
+    let room = (table.len() - labels.len()).saturating_sub(1);
+    if rng.once_in(4) {
+        labels.truncate(rng.below(labels.len() + 1));
+    }
+    let new = match rng.below(8) {
+        0 | 1 => 0,
+        2 | 3 => room,
+        4 => room + 1,
+        _ => rng.below(room + 2),
+    };
+    labels.extend((0..new).map(|_| rng.within(1, most) as u32));
+    if !labels.is_empty() {
+        for _ in 0..rng.pick(&[0, 0, 1, 2, 5]) {
+            labels.push(rng.pick(&labels));
+        }
+    }
+    rng.shuffle(&mut labels);
+    let order = |label| Order {
+        worker: rng.below(crew) as u32,
+        label,
+        price: price(rng),
+    };
+    labels.into_iter().map(order).collect()
+}
+
+/// Makes a line one that no opening with `crew` workers takes, for one reason
+/// or for several.
+pub fn spoil(rng: &mut Rng, order: &mut Order, crew: usize) {
+    let reasons = rng.within(1, 7);
+    if reasons & 1 != 0 {
+        order.label = 0;
+    }
+    if reasons & 2 != 0 {
+        order.price = rng.pick(&WRONG_PRICES);
+    }
+    if reasons & 4 != 0 {
+        order.worker = rng.pick(&[crew as u32, crew as u32 + 1, u32::MAX]);
+    }
+}
 
 /// The styles of chapters.
 #[derive(Clone, Copy, Debug, PartialEq, Eq)]
@@ -131,7 +192,7 @@ pub fn styled(style: Style, seed: u64) -> Vec<u8> {
 /// Random bytes, mostly those of sheets.
 fn noise(rng: &mut Rng) -> Vec<u8> {
     let length = rng.below(60);
-    let common = b"\t\n0123456789clodrunist\0\r ";
+    let common = b"\t\n0123456789clodrunistem\0\r ";
     (0..length)
         .map(|_| match rng.once_in(8) {
             true => rng.draw() as u8,
@@ -146,10 +207,11 @@ fn loose(rng: &mut Rng) -> Vec<u8> {
         .map(|_| match rng.below(14) {
             0 => format!("cells\t{}\n", rng.below(9)),
             1 | 2 => format!("open\t{}\t{}\n", rng.below(5), rng.below(4)),
-            3 | 4 => format!("order\t{}\t{}\n", rng.below(4), rng.below(12)),
+            3 => format!("order\t{}\t{}\n", rng.below(4), rng.below(12)),
+            4 => format!("order\t{}\n", rng.below(4)),
             5 | 6 => {
-                let (worker, label) = (rng.below(4), rng.below(12));
-                format!("order\t{worker}\t{label}\t{}\n", rng.below(4))
+                let (worker, label) = (rng.below(3), rng.below(12));
+                format!("item\t{worker}\t{label}\t{}\n", rng.below(9))
             }
             7..=9 => format!("turn\t{}\n", rng.below(4)),
             10 | 11 => "run\n".to_string(),
@@ -165,6 +227,7 @@ struct Sheet {
     text: Vec<u8>,
     table: Vec<u64>,
     phase: Phase,
+    items: Vec<Order>,
 }
 
 impl Sheet {
@@ -173,6 +236,7 @@ impl Sheet {
             text: Vec::new(),
             table: Vec::new(),
             phase: Phase::shut(),
+            items: Vec::new(),
         }
     }
 
@@ -187,19 +251,54 @@ impl Sheet {
         self.table = vec![0; n];
     }
 
-    fn open(&mut self, kind: u32, workers: usize) {
-        self.line(&format!("open\t{kind}\t{workers}"));
-        self.phase = Phase::open(kind.into(), workers as u64, &self.table)
-            .expect("the shift is shut and its table sound");
+    /// Writes an item, unless it would be one too many.
+    fn item(&mut self, item: Order) {
+        if self.items.len() < 1024 {
+            let Order {
+                worker,
+                label,
+                price,
+            } = item;
+            self.line(&format!("item\t{worker}\t{label}\t{price}"));
+            self.items.push(item);
+        }
     }
 
-    /// The price is written in put-in shifts alone.
-    fn order(&mut self, worker: usize, label: u32, price: u32) {
-        match self.phase.kind {
-            PUT_IN => self.line(&format!("order\t{worker}\t{label}\t{price}")),
-            _ => self.line(&format!("order\t{worker}\t{label}")),
+    fn open(&mut self, kind: u32, workers: usize) -> Result<(), u8> {
+        self.line(&format!("open\t{kind}\t{workers}"));
+        self.phase = Phase::open(kind.into(), workers as u64, &self.table, &self.items)?;
+        Ok(())
+    }
+
+    /// An order of a put-in shift.
+    fn place(&mut self, place: usize) {
+        self.line(&format!("order\t{place}"));
+        let _ = self.phase.order(&self.items, place as u64, 0, 0);
+    }
+
+    /// An order of the other shifts.
+    fn order(&mut self, worker: usize, label: u32) {
+        self.line(&format!("order\t{worker}\t{label}"));
+        let _ = self.phase.order(&[], 0, worker as u64, label);
+    }
+
+    /// An order for that worker, of that label if it can be had.
+    fn give(&mut self, worker: usize, label: u32, rng: &mut Rng) {
+        if self.phase.kind != PUT_IN {
+            return self.order(worker, label);
         }
-        let _ = self.phase.order(worker as u64, label, price);
+        let own = |fits: &dyn Fn(&Order) -> bool| -> Vec<usize> {
+            let own = |place: &usize| self.items[*place].worker == worker as u32;
+            let places = (0..self.items.len()).filter(own);
+            places.filter(|&place| fits(&self.items[place])).collect()
+        };
+        let mut places = own(&|item| item.label == label);
+        if places.is_empty() {
+            places = own(&|_| true);
+        }
+        if !places.is_empty() {
+            self.place(rng.pick(&places));
+        }
     }
 
     fn turn(&mut self, worker: usize) {
@@ -218,7 +317,9 @@ impl Sheet {
 
     fn close(&mut self) {
         self.line("close");
-        let _ = self.phase.close();
+        if self.phase.close().is_ok() && self.phase.kind == PUT_IN {
+            self.items.clear();
+        }
     }
 
     /// The workers with unfinished orders.
@@ -312,6 +413,9 @@ fn plan(rng: &mut Rng, style: Style) -> Chapter {
 
 fn chapter(rng: &mut Rng, style: Style, sheet: &mut Sheet) {
     let plan = plan(rng, style);
+    if rng.once_in(6) {
+        items(rng, &plan, plan.most_workers, sheet);
+    }
     sheet.cells(plan.cells);
     // Fill first, then anything.
     shift(rng, &plan, 1, sheet);
@@ -321,8 +425,68 @@ fn chapter(rng: &mut Rng, style: Style, sheet: &mut Sheet) {
     }
 }
 
+/// Writes items: labels of the pool, or those in the table, or so few that
+/// several workers meet at one label, at several prices. Mostly the table has
+/// room for them.
+fn items(rng: &mut Rng, plan: &Chapter, workers: usize, sheet: &mut Sheet) {
+    let present = labels_of(&sheet.table);
+    let labels = match rng.below(8) {
+        0 | 1 => (0..rng.within(1, 3))
+            .map(|_| rng.pick(&plan.pool))
+            .collect(),
+        2 | 3 if !present.is_empty() => present.clone(),
+        _ => plan.pool.clone(),
+    };
+    let rounds = rng
+        .within(1, plan.cells / workers + 1)
+        .min(plan.most_rounds);
+    let mut known: BTreeSet<u32> = present.into_iter().collect();
+    known.extend(sheet.items.iter().map(|item| item.label));
+    let most = match rng.once_in(15) {
+        true => usize::MAX,
+        false => plan.cells - 1,
+    };
+    // A line that no opening takes; then the list never ends.
+    let bad = rng.once_in(60).then(|| rng.below(rounds * workers));
+    for i in 0..rounds * workers {
+        let mut label = rng.pick(&labels);
+        if known.len() >= most && !known.contains(&label) {
+            // No room for a new one: one that is there is sent again.
+            match known.range(label..).next().or(known.first()) {
+                Some(&other) => label = other,
+                None => return,
+            }
+        }
+        known.insert(label);
+        let worker = match rng.once_in(8) {
+            true => rng.below(workers),
+            false => i % workers,
+        };
+        let mut item = Order {
+            worker: worker as u32,
+            label,
+            price: price(rng),
+        };
+        if bad == Some(i) {
+            spoil(rng, &mut item, workers);
+        }
+        sheet.item(item);
+    }
+}
+
+/// Opens a put-in shift with its items, if they open one.
+fn open_put_in(rng: &mut Rng, workers: usize, sheet: &mut Sheet) -> bool {
+    if rng.once_in(10) && sheet.open(PUT_IN, rng.within(1, workers)).is_ok() {
+        return true;
+    }
+    match sheet.open(PUT_IN, workers) {
+        Err(refusal::NO_WORKER) => sheet.open(PUT_IN, 16).is_ok(),
+        answer => answer.is_ok(),
+    }
+}
+
 /// A shift from its opening to its close, with mistakes that are refused.
-fn shift(rng: &mut Rng, plan: &Chapter, kind: u32, sheet: &mut Sheet) {
+fn shift(rng: &mut Rng, plan: &Chapter, mut kind: u32, sheet: &mut Sheet) {
     if rng.once_in(5) {
         shut_mistake(rng, sheet);
     }
@@ -331,37 +495,53 @@ fn shift(rng: &mut Rng, plan: &Chapter, kind: u32, sheet: &mut Sheet) {
     } else {
         rng.within(1, plan.most_workers)
     };
-    sheet.open(kind, workers);
+    // Items of a shift of another kind are kept.
+    if kind == PUT_IN && !rng.once_in(10) || rng.once_in(10) {
+        items(rng, plan, workers, sheet);
+    }
+    if kind == PUT_IN && !open_put_in(rng, workers, sheet) {
+        kind = rng.pick(&[2, 2, 3]);
+    }
+    if kind != PUT_IN {
+        sheet
+            .open(kind, workers)
+            .expect("the shift is shut and its table sound");
+    }
     if rng.once_in(12) {
         sheet.close();
         return;
     }
-    // The labels to order: those of the pool, or those in the table, or so
-    // few that several workers meet at one label, at several prices.
-    let present: Vec<u32> = sheet
-        .table
-        .iter()
-        .map(|&cell| label_of(cell))
-        .filter(|&label| label > 0)
-        .collect();
+    let workers = sheet.phase.count;
+    // The labels to order: those of the pool, or those in the table, or few.
+    let present = labels_of(&sheet.table);
     let labels = match rng.below(8) {
         0 | 1 => (0..rng.within(1, 3))
             .map(|_| rng.pick(&plan.pool))
             .collect(),
-        2..=6 if kind != 1 && !present.is_empty() => present,
+        2..=6 if !present.is_empty() => present,
         _ => plan.pool.clone(),
     };
-    // A put-in shift has enough orders to use up the room now and then.
+    // In a put-in shift all lines are given once, mostly, and some again.
+    let mut places: Vec<usize> = (0..sheet.items.len()).collect();
+    if rng.once_in(3) {
+        rng.shuffle(&mut places);
+    }
+    let mut places = places.into_iter();
     let rounds = match kind {
-        1 => rng
-            .within(1, plan.cells / workers + 1)
-            .min(plan.most_rounds),
+        PUT_IN => places.len().div_ceil(workers).min(plan.most_rounds) + rng.below(2),
         _ => rng.within(1, 3),
     };
     for _ in 0..rounds {
         for worker in 0..workers {
-            if !rng.once_in(6) {
-                sheet.order(worker, rng.pick(&labels), price(rng));
+            if rng.once_in(6) {
+                continue;
+            }
+            if kind != PUT_IN {
+                sheet.order(worker, rng.pick(&labels));
+            } else if let Some(place) = places.next() {
+                sheet.place(place);
+            } else {
+                sheet.give(worker, rng.pick(&labels), rng);
             }
         }
         match rng.below(4) {
@@ -412,7 +592,7 @@ fn deal(rng: &mut Rng, labels: &[u32], sheet: &mut Sheet) {
             open_mistake(rng, sheet);
         }
         if rng.once_in(15) {
-            sheet.order(rng.below(workers), rng.pick(labels), price(rng));
+            sheet.give(rng.below(workers), rng.pick(labels), rng);
         }
     }
 }
@@ -446,7 +626,7 @@ fn overtake(rng: &mut Rng, labels: &[u32], sheet: &mut Sheet) {
                 }
                 _ => rng.pick(labels),
             };
-            sheet.order(other, label, price(rng));
+            sheet.give(other, label, rng);
         }
         for _ in 0..rng.pick(&[3, 10, 40, 40, 40]) {
             if sheet.phase.workers[other] != Activity::Idle {
@@ -467,26 +647,25 @@ fn open_mistake(rng: &mut Rng, sheet: &mut Sheet) {
     let workers = sheet.phase.count;
     let outside = rng.pick(&[workers, workers + 1, 16, 17, 4294967295]);
     let inside = rng.below(workers);
-    // Right or wrong, so that each refusal is met with 14 behind it.
-    let price = match rng.once_in(2) {
-        true => price(rng),
-        false => rng.pick(&WRONG_PRICES),
-    };
+    let lines = sheet.items.len();
     match rng.below(8) {
-        0 => sheet.order(outside, rng.below(9) as u32, price),
-        1 => sheet.order(inside, 0, price),
-        2 => {
+        0 => sheet.turn(outside),
+        1 if !sheet.phase.all_idle() => sheet.close(),
+        2 | 3 if sheet.phase.kind == PUT_IN && lines > 0 => {
             // The second one finds the worker busy.
-            sheet.order(inside, rng.within(1, 9) as u32, 1);
-            sheet.order(inside, rng.below(9) as u32, price);
+            let place = rng.below(lines);
+            sheet.place(place);
+            sheet.place(place);
         }
-        3 => sheet.turn(outside),
-        4 if !sheet.phase.all_idle() => sheet.close(),
-        5 | 6 if sheet.phase.kind == PUT_IN => {
-            // Also where the orders are used up.
-            sheet.order(inside, rng.within(1, 9) as u32, rng.pick(&WRONG_PRICES));
+        _ if sheet.phase.kind == PUT_IN => {
+            sheet.place(rng.pick(&[lines, lines + 1, 65_536, 4294967295]));
         }
-        _ => sheet.order(outside, 0, price),
+        2 | 3 => {
+            sheet.order(inside, rng.within(1, 9) as u32);
+            sheet.order(inside, rng.below(9) as u32);
+        }
+        4 | 5 => sheet.order(inside, 0),
+        _ => sheet.order(outside, rng.below(9) as u32),
     }
 }
 
@@ -496,7 +675,7 @@ fn shut_mistake(rng: &mut Rng, sheet: &mut Sheet) {
         0 => "run".to_string(),
         1 => "close".to_string(),
         2 => format!("turn\t{}", rng.pick(&[0, 1, 16, u32::MAX])),
-        3 => format!("order\t{}\t{}\t1", rng.below(20), rng.below(20)),
+        3 => format!("order\t{}", rng.below(20)),
         4 => format!("open\t{}\t1", rng.pick(&[0, 4, 5, u32::MAX])),
         5 => format!(
             "open\t{}\t{}",
@@ -584,13 +763,21 @@ fn damage(rng: &mut Rng, text: &mut Vec<u8>) {
             lines.insert(at, new);
         }
         2 => {
-            // Orders with a price, without and with more: some are bad in each kind of shift.
-            let new = rng.pick(&["order\t0\t1", "order\t0\t1\t1", "order\t0\t1\t1\t1"]);
+            // Orders of one to three numbers: some are bad in each kind of shift.
+            let new = rng.pick(&["order\t0", "order\t0\t1", "order\t0\t1\t1"]);
             lines.insert(at, new.into());
         }
         3 => {
             // In an open shift this ends the replay.
-            let new = rng.pick(&["cells\t5", "cells\t1", "open\t1\t1", "open\t9\t99", "cells"]);
+            let new = rng.pick(&[
+                "cells\t5",
+                "cells\t1",
+                "open\t1\t1",
+                "open\t9\t99",
+                "cells",
+                "item\t0\t1\t1",
+                "item\t0\t0\t0",
+            ]);
             lines.insert(at, new.into());
         }
         _ => {
@@ -641,14 +828,27 @@ fn whole_line(rng: &mut Rng) -> Vec<u8> {
         "open\t1\t",
         "open\t1\t1\t",
         "open\t1\t1\t1",
+        "item",
+        "item\t",
+        "item\t0\t1",
+        "item\t0\t1\t",
+        "item\t0\t1\t1\t",
+        "item\t0\t1\t1\t1",
+        "item\t0\t01\t1",
+        "item\t0\t1\t01",
+        "item\t0\t1\t4294967296",
+        "item\t0\t1\t1\r",
+        "items\t0\t1\t1",
+        "Item\t0\t1\t1",
+        "item 0 1 1",
         "order\0",
         "order ",
         "orders\t0\t1",
-        "orders\t0\t1\t1",
+        "orders\t0",
         "Order\t0\t1",
-        "Order\t0\t1\t1",
+        "Order\t0",
         "order 0 1",
-        "order 0 1 1",
+        "order 0",
         "ok",
         "# note",
         "\u{e9}",
@@ -662,7 +862,8 @@ fn long_line(rng: &mut Rng) -> Vec<u8> {
         "",
         "turn\t",
         "order\t0\t",
-        "order\t0\t1\t",
+        "item\t0\t1\t",
+        "item\t",
         "order\t",
         "cells\t",
         "run",

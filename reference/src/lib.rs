@@ -24,4 +24,6 @@ pub mod refusal {
     pub const SHORT_LIST: u8 = 12;
     pub const SPOILT: u8 = 13;
     pub const PRICE: u8 = 14;
+    pub const NO_LINE: u8 = 15;
+    pub const LONG_LIST: u8 = 16;
 }

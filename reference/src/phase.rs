@@ -59,13 +59,20 @@ pub enum Answer {
     Idle,
 }
 
+/// A line of the list that a put-in shift is opened with.
+#[derive(Clone, Copy, Debug, PartialEq, Eq, Hash)]
+pub struct Order {
+    pub worker: u32,
+    pub label: u32,
+    pub price: u32,
+}
+
 /// The shift record. The fields are open so that tests can forge records.
 #[derive(Clone, Debug, PartialEq, Eq, Hash)]
 pub struct Phase {
     pub kind: u32,
     pub length: usize,
     pub count: usize,
-    pub orders_left: usize,
     pub open: bool,
     pub workers: [Activity; Phase::MAX_WORKERS],
 }
@@ -75,6 +82,7 @@ impl Phase {
     pub const MAX_CELLS: usize = 8192;
     pub const MIN_WORKERS: usize = 1;
     pub const MAX_WORKERS: usize = 16;
+    pub const MAX_ORDERS: usize = 65_536;
 
     /// The shut record that stands for a refused opening.
     pub fn shut() -> Phase {
@@ -82,14 +90,14 @@ impl Phase {
             kind: LOOK_UP,
             length: 2,
             count: 1,
-            orders_left: 0,
             open: false,
             workers: [Idle; Phase::MAX_WORKERS],
         }
     }
 
-    /// Opens a shift on the table.
-    pub fn open(kind: u64, count: u64, table: &[u64]) -> Result<Phase, u8> {
+    /// Opens a shift on the table. A put-in shift is lent the list of orders;
+    /// the other kinds don't read it.
+    pub fn open(kind: u64, count: u64, table: &[u64], orders: &[Order]) -> Result<Phase, u8> {
         if !is_length(table.len()) {
             return Err(refusal::SIZE);
         }
@@ -99,34 +107,55 @@ impl Phase {
         if !(1..=3).contains(&kind) {
             return Err(refusal::KIND);
         }
+        let kind = kind as u32;
+        if kind == PUT_IN && orders.len() > Phase::MAX_ORDERS {
+            return Err(refusal::LONG_LIST);
+        }
         if !is_sound(table) {
             return Err(refusal::UNSOUND);
         }
-        let kind = kind as u32;
-        let orders_left = if kind == PUT_IN {
-            table.iter().filter(|&&cell| cell == EMPTY).count() - 1
-        } else {
-            0
-        };
+        if kind == PUT_IN {
+            for order in orders {
+                order.check(count)?;
+            }
+            if labels_together(table, orders) >= table.len() {
+                return Err(refusal::FULL);
+            }
+        }
         Ok(Phase {
             kind,
             length: table.len(),
             count: count as usize,
-            orders_left,
             open: true,
             workers: [Idle; Phase::MAX_WORKERS],
         })
     }
 
-    /// Gives an idle worker a label. A put-in also has a price; outside put-in
-    /// shifts it isn't read.
-    pub fn order(&mut self, worker: u64, label: u32, price: u32) -> Result<(), u8> {
+    /// Gives an idle worker an order. In a put-in shift this is line `line` of
+    /// the lent list, in the others `label` for `worker`; neither reads what is
+    /// meant for the other.
+    pub fn order(
+        &mut self,
+        orders: &[Order],
+        line: u64,
+        worker: u64,
+        label: u32,
+    ) -> Result<(), u8> {
         if self.is_spoilt() {
             return Err(refusal::SPOILT);
         }
         if !self.open {
             return Err(refusal::SHUT);
         }
+        let (worker, label, price) = if self.kind == PUT_IN {
+            if line >= orders.len() as u64 {
+                return Err(refusal::NO_LINE);
+            }
+            let order = orders[line as usize];
+            (order.worker.into(), order.label, order.price)
+        } else {
+            (worker, label, 0)
+        };
         if worker >= self.count as u64 {
             return Err(refusal::NO_WORKER);
         }
@@ -137,19 +166,11 @@ impl Phase {
         if label == 0 {
             return Err(refusal::BLANK);
         }
-        let mut entry = content(label, 0);
-        if self.kind == PUT_IN {
-            if !is_price(price) {
-                return Err(refusal::PRICE);
-            }
-            if self.orders_left == 0 {
-                return Err(refusal::FULL);
-            }
-            self.orders_left -= 1;
-            entry = content(label, price);
+        if self.kind == PUT_IN && !is_price(price) {
+            return Err(refusal::PRICE);
         }
         *activity = ReadingOn {
-            entry,
+            entry: content(label, price),
             cell: home(label, self.length),
         };
         Ok(())
@@ -197,7 +218,6 @@ impl Phase {
         if !(PUT_IN..=LOOK_UP).contains(&self.kind)
             || !is_length(self.length)
             || !(Phase::MIN_WORKERS..=Phase::MAX_WORKERS).contains(&self.count)
-            || self.orders_left >= self.length
         {
             return true;
         }
@@ -216,6 +236,32 @@ impl Phase {
     pub fn all_idle(&self) -> bool {
         self.crew().iter().all(|activity| *activity == Idle)
     }
+}
+
+impl Order {
+    /// What the opening of a shift with `count` workers checks of a line.
+    fn check(&self, count: u64) -> Result<(), u8> {
+        if self.label == 0 {
+            return Err(refusal::BLANK);
+        }
+        if !is_price(self.price) {
+            return Err(refusal::PRICE);
+        }
+        if u64::from(self.worker) >= count {
+            return Err(refusal::NO_WORKER);
+        }
+        Ok(())
+    }
+}
+
+/// The number of labels of table and list together, each counted once.
+fn labels_together(table: &[u64], orders: &[Order]) -> usize {
+    let standing = table.iter().map(|&cell| label_of(cell));
+    let ordered = orders.iter().map(|order| order.label);
+    let mut labels: Vec<u32> = standing.filter(|&l| l != 0).chain(ordered).collect();
+    labels.sort_unstable();
+    labels.dedup();
+    labels.len()
 }
 
 impl Activity {

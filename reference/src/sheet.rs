@@ -4,19 +4,25 @@ use std::io::{self, BufRead, Write};
 
 use crate::layout::{label_of, price_of};
 use crate::listing;
-use crate::phase::{Activity, Answer, Phase, PUT_IN};
+use crate::phase::{Activity, Answer, Order, Phase, PUT_IN};
 use crate::refusal;
 
 /// The greatest length `cells` takes.
 const MAX_SHEET_CELLS: u32 = 4096;
 
+/// The most `item` lines of a list.
+const MAX_ITEMS: usize = 1024;
+
 /// A readable line.
 #[derive(Clone, Copy, Debug, PartialEq, Eq)]
 enum Line {
     Cells(u32),
+    Item(Order),
     Open(u32, u32),
-    /// Worker, label and price; outside put-in shifts the price is 0.
-    Order(u32, u32, u32),
+    /// A place in the list, in a put-in shift.
+    OrderItem(u32),
+    /// Worker and label, in the others.
+    Order(u32, u32),
     Turn(u32),
     Run,
     Close,
@@ -40,8 +46,8 @@ fn fields(line: &[u8]) -> impl Iterator<Item = &[u8]> {
     line.split(|&byte| byte == b'\t')
 }
 
-/// Reads a line (without its newline); None if unreadable. An `order` has a
-/// price in a put-in shift and none in others.
+/// Reads a line (without its newline); None if unreadable. An `order` has one
+/// number in a put-in shift and two in others.
 fn read_line(line: &[u8], kind: u32) -> Option<Line> {
     let mut fields = fields(line);
     let word = fields.next()?;
@@ -54,9 +60,14 @@ fn read_line(line: &[u8], kind: u32) -> Option<Line> {
     let [first, second, third] = numbers;
     match (word, count) {
         (b"cells", 1) => Some(Line::Cells(first)),
+        (b"item", 3) => Some(Line::Item(Order {
+            worker: first,
+            label: second,
+            price: third,
+        })),
         (b"open", 2) => Some(Line::Open(first, second)),
-        (b"order", 3) if kind == PUT_IN => Some(Line::Order(first, second, third)),
-        (b"order", 2) if kind != PUT_IN => Some(Line::Order(first, second, 0)),
+        (b"order", 1) if kind == PUT_IN => Some(Line::OrderItem(first)),
+        (b"order", 2) if kind != PUT_IN => Some(Line::Order(first, second)),
         (b"turn", 1) => Some(Line::Turn(first)),
         (b"run", 0) => Some(Line::Run),
         (b"close", 0) => Some(Line::Close),
@@ -80,6 +91,8 @@ enum Reply<'a> {
 struct Replay {
     table: Vec<u64>,
     phase: Phase,
+    /// The list of the put-in shift that is open, or of the next.
+    items: Vec<Order>,
     finishes: Vec<Option<Answer>>,
     listed: Vec<u64>,
 }
@@ -89,6 +102,7 @@ impl Replay {
         Replay {
             table: Vec::new(),
             phase: Phase::shut(),
+            items: Vec::new(),
             finishes: Vec::new(),
             listed: Vec::new(),
         }
@@ -100,19 +114,28 @@ impl Replay {
             return Some(Reply::Refused(refusal::SHUT));
         }
         let reply = match read_line(line, self.phase.kind)? {
-            Line::Cells(_) | Line::Open(..) if self.phase.open => return None,
+            Line::Cells(_) | Line::Item(_) | Line::Open(..) if self.phase.open => return None,
+            Line::Item(_) if self.items.len() == MAX_ITEMS => return None,
+            Line::Item(order) => {
+                self.items.push(order);
+                Ok(Reply::Ok)
+            }
             Line::Cells(length) => self.cells(length).map(|()| Reply::Ok),
             Line::Open(kind, count) => self.open(kind, count).map(|()| Reply::Ok),
-            Line::Order(worker, label, price) => self
+            Line::OrderItem(place) => self
                 .phase
-                .order(worker.into(), label, price)
+                .order(&self.items, place.into(), 0, 0)
+                .map(|()| Reply::Ok),
+            Line::Order(worker, label) => self
+                .phase
+                .order(&[], 0, worker.into(), label)
                 .map(|()| Reply::Ok),
             Line::Turn(worker) => self
                 .phase
                 .turn(&mut self.table, worker.into())
                 .map(Reply::Turned),
             Line::Run => self.run().map(|()| Reply::Finishes(&self.finishes)),
-            Line::Close => self.phase.close().map(|()| Reply::Ok),
+            Line::Close => self.close().map(|()| Reply::Ok),
             Line::List => {
                 self.listed.resize(self.table.len(), 0);
                 listing::list(&self.table, &mut self.listed)
@@ -132,7 +155,16 @@ impl Replay {
     }
 
     fn open(&mut self, kind: u32, count: u32) -> Result<(), u8> {
-        self.phase = Phase::open(kind.into(), count.into(), &self.table)?;
+        self.phase = Phase::open(kind.into(), count.into(), &self.table, &self.items)?;
+        Ok(())
+    }
+
+    /// The close of a put-in shift ends its list.
+    fn close(&mut self) -> Result<(), u8> {
+        self.phase.close()?;
+        if self.phase.kind == PUT_IN {
+            self.items.clear();
+        }
         Ok(())
     }
 

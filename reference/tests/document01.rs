@@ -2,7 +2,7 @@
 
 use reference::layout::{content, is_sound, layout, Prices};
 use reference::listing::{check, count, list, list_front, taken_word};
-use reference::phase::{Activity, Answer, Phase, LOOK_UP, PUT_IN, TAKE_OUT};
+use reference::phase::{Activity, Answer, Order, Phase, LOOK_UP, PUT_IN, TAKE_OUT};
 use reference::sheet::replay_bytes;
 
 fn set(labels: &[u32]) -> Prices {
@@ -20,13 +20,34 @@ fn cells<const N: usize>(labels: [u32; N]) -> [u64; N] {
     labels.map(cell)
 }
 
-/// Opens a shift, gives each order to its worker, runs it and closes.
-fn shift(kind: u32, table: &mut [u64], orders: &[u32]) -> Vec<Answer> {
-    let mut phase = Phase::open(kind.into(), orders.len() as u64, table).unwrap();
-    for (worker, &label) in orders.iter().enumerate() {
-        phase.order(worker as u64, label, 1).unwrap();
+/// A list with one label for each worker.
+fn list_of(labels: &[u32]) -> Vec<Order> {
+    let order = |(worker, &label)| Order {
+        worker,
+        label,
+        price: 1,
+    };
+    (0..).zip(labels).map(order).collect()
+}
+
+/// Opens a shift without a list.
+fn open(kind: u64, count: u64, table: &[u64]) -> Result<Phase, u8> {
+    Phase::open(kind, count, table, &[])
+}
+
+/// Gives a worker a label to take out or look up.
+fn order(phase: &mut Phase, worker: u64, label: u32) -> Result<(), u8> {
+    phase.order(&[], 0, worker, label)
+}
+
+/// Opens a shift, gives each label to its worker, runs it and closes.
+fn shift(kind: u32, table: &mut [u64], labels: &[u32]) -> Vec<Answer> {
+    let list = list_of(labels);
+    let mut phase = Phase::open(kind.into(), labels.len() as u64, table, &list).unwrap();
+    for (worker, &label) in (0..).zip(labels) {
+        phase.order(&list, worker, worker, label).unwrap();
     }
-    let mut answers = vec![Answer::Idle; orders.len()];
+    let mut answers = vec![Answer::Idle; labels.len()];
     while !phase.all_idle() {
         for (worker, finish) in answers.iter_mut().enumerate() {
             let answer = phase.turn(table, worker as u64).unwrap();
@@ -49,12 +70,16 @@ fn replay(sheet: &str) -> String {
 
 const SHEET: &str = "\
 cells 5
+item 0 3 1
+item 1 8 1
+item 0 13 1
+item 1 4 1
 open 1 2
-order 0 3 1
-order 1 8 1
+order 0
+order 1
 run
-order 0 13 1
-order 1 4 1
+order 2
+order 3
 run
 close
 list
@@ -65,12 +90,16 @@ const PRINTED: &str = "\
 2 ok
 3 ok
 4 ok
-5 done done
+5 ok
 6 ok
 7 ok
-8 done done
-9 ok
-10 4 4 1 3 1 13 1 8 1
+8 ok
+9 done done
+10 ok
+11 ok
+12 done done
+13 ok
+14 4 4 1 3 1 13 1 8 1
 ";
 
 #[test]
@@ -115,9 +144,9 @@ fn eight_by_two_workers() {
 fn two_cells() {
     let table = layout(2, &set(&[7]));
     assert_eq!(table, cells([0, 7]));
-    let mut phase = Phase::open(1, 1, &table).unwrap();
-    assert_eq!(phase.order(0, 7, 1), Err(9));
-    assert_eq!(phase.order(0, 1, 1), Err(9));
+    // Document 02: the shift opens for a list of 7 alone.
+    assert!(Phase::open(1, 1, &table, &list_of(&[7])).is_ok());
+    assert_eq!(Phase::open(1, 1, &table, &list_of(&[1])), Err(9));
 }
 
 #[test]
@@ -144,7 +173,7 @@ fn unsound_tables() {
         assert_eq!(list(&table, &mut lent), Err(4));
         assert!(list_front(&table, &mut lent).is_empty());
         assert_eq!(lent, [77]);
-        assert_eq!(Phase::open(1, 1, &table), Err(4));
+        assert_eq!(open(1, 1, &table), Err(4));
     }
 }
 
@@ -159,7 +188,7 @@ fn lengths() {
     ] {
         let table = vec![0; n];
         for kind in 1..=3 {
-            assert_eq!(Phase::open(kind, 1, &table).map(|_| ()), answer);
+            assert_eq!(open(kind, 1, &table).map(|_| ()), answer);
         }
         assert_eq!(check(&table), answer);
         assert_eq!(count(&table), answer.map(|()| 0));
@@ -177,7 +206,7 @@ fn worker_counts() {
             (17, Err(2)),
             (u64::MAX, Err(2)),
         ] {
-            assert_eq!(Phase::open(kind, count, &[0; 5]).map(|_| ()), answer);
+            assert_eq!(open(kind, count, &[0; 5]).map(|_| ()), answer);
         }
     }
 }
@@ -185,23 +214,23 @@ fn worker_counts() {
 #[test]
 fn kinds() {
     for kind in [0, 4, 1 << 32 | 1, u64::MAX] {
-        assert_eq!(Phase::open(kind, 1, &[0; 5]), Err(3));
+        assert_eq!(open(kind, 1, &[0; 5]), Err(3));
     }
 }
 
 #[test]
 fn openings_refuse_in_order() {
-    assert_eq!(Phase::open(0, 0, &cells([1])), Err(1));
-    assert_eq!(Phase::open(0, 0, &cells([1, 1])), Err(2));
-    assert_eq!(Phase::open(0, 1, &cells([1, 1])), Err(3));
-    assert_eq!(Phase::open(1, 1, &cells([1, 1])), Err(4));
+    assert_eq!(open(0, 0, &cells([1])), Err(1));
+    assert_eq!(open(0, 0, &cells([1, 1])), Err(2));
+    assert_eq!(open(0, 1, &cells([1, 1])), Err(3));
+    assert_eq!(open(1, 1, &cells([1, 1])), Err(4));
 }
 
 #[test]
 fn a_shift_without_orders_keeps_its_table() {
     for kind in 1..=3 {
         let mut table = cells([4, 3, 0, 13, 8]);
-        let mut phase = Phase::open(kind, 16, &table).unwrap();
+        let mut phase = open(kind, 16, &table).unwrap();
         for worker in 0..16 {
             assert_eq!(phase.turn(&mut table, worker), Ok(Answer::Idle));
         }
@@ -229,32 +258,32 @@ fn look_up_answers() {
 
 #[test]
 fn order_refuses_in_order() {
-    let mut phase = Phase::open(1, 2, &[0, 0, 0]).unwrap();
-    assert_eq!(phase.orders_left, 2);
-    assert_eq!(phase.order(2, 0, 1), Err(6));
-    assert_eq!(phase.order(1 << 32, 1, 1), Err(6));
-    assert_eq!(phase.order(0, 0, 1), Err(7));
-    assert_eq!(phase.order(0, 5, 1), Ok(()));
-    assert_eq!(phase.order(0, 0, 1), Err(8));
-    assert_eq!(phase.order(1, 5, 1), Ok(()));
-    assert_eq!(phase.order(1, 5, 1), Err(8));
-    assert_eq!(phase.close(), Err(10));
-    let mut table = [0, 0, 0];
-    while !phase.all_idle() {
-        phase.turn(&mut table, 0).unwrap();
-        phase.turn(&mut table, 1).unwrap();
+    for kind in [2, 3] {
+        let mut phase = open(kind, 2, &[0, 0, 0]).unwrap();
+        assert_eq!(order(&mut phase, 2, 0), Err(6));
+        assert_eq!(order(&mut phase, 1 << 32, 1), Err(6));
+        assert_eq!(order(&mut phase, 0, 0), Err(7));
+        assert_eq!(order(&mut phase, 0, 5), Ok(()));
+        assert_eq!(order(&mut phase, 0, 0), Err(8));
+        assert_eq!(order(&mut phase, 1, 5), Ok(()));
+        assert_eq!(order(&mut phase, 1, 5), Err(8));
+        assert_eq!(phase.close(), Err(10));
+        let mut table = [0, 0, 0];
+        while !phase.all_idle() {
+            phase.turn(&mut table, 0).unwrap();
+            phase.turn(&mut table, 1).unwrap();
+        }
+        assert_eq!(order(&mut phase, 1, 0), Err(7));
+        assert_eq!(phase.close(), Ok(()));
+        assert_eq!(order(&mut phase, 2, 0), Err(11));
+        phase.length = 1;
+        assert_eq!(order(&mut phase, 2, 0), Err(13));
     }
-    assert_eq!(phase.order(1, 0, 1), Err(7));
-    assert_eq!(phase.order(1, 5, 1), Err(9));
-    assert_eq!(phase.close(), Ok(()));
-    assert_eq!(phase.order(2, 0, 1), Err(11));
-    phase.length = 1;
-    assert_eq!(phase.order(2, 0, 1), Err(13));
 }
 
 #[test]
 fn turn_refuses_in_order() {
-    let mut phase = Phase::open(3, 2, &[0, 0, 0]).unwrap();
+    let mut phase = open(3, 2, &[0, 0, 0]).unwrap();
     assert_eq!(phase.turn(&mut [0, 0], 2), Err(5));
     assert_eq!(phase.turn(&mut [0, 0, 0], 2), Err(6));
     assert_eq!(phase.turn(&mut [0, 0, 0], 1 << 32), Err(6));
@@ -267,7 +296,7 @@ fn turn_refuses_in_order() {
 
 #[test]
 fn spoilt_records() {
-    let sound = Phase::open(2, 2, &[0; 5]).unwrap();
+    let sound = open(2, 2, &[0; 5]).unwrap();
     assert!(!sound.is_spoilt());
     assert!(!Phase::shut().is_spoilt());
     let spoilt = |change: &dyn Fn(&mut Phase)| {
@@ -281,8 +310,6 @@ fn spoilt_records() {
     assert!(spoilt(&|p| p.length = 8193));
     assert!(spoilt(&|p| p.count = 0));
     assert!(spoilt(&|p| p.count = 17));
-    assert!(!spoilt(&|p| p.orders_left = 4));
-    assert!(spoilt(&|p| p.orders_left = 5));
 
     let with = |kind: u32, worker: usize, activity: Activity| {
         spoilt(&|p| {
@@ -390,11 +417,11 @@ fn taken_words_place_the_groups() {
 fn turns_on_the_sheet() {
     assert_eq!(
         replay(
-            "cells 5\nopen 1 2\norder 0 3 1\norder 1 8 1\nturn 0\nturn 1\nturn 1\nturn 0\nturn 0\n\
-             turn 0\nturn 0\nturn 0\nturn 0\nclose\nlist\n"
+            "cells 5\nitem 0 3 1\nitem 1 8 1\nopen 1 2\norder 0\norder 1\nturn 0\nturn 1\nturn 1\n\
+             turn 0\nturn 0\nturn 0\nturn 0\nturn 0\nturn 0\nclose\nlist\n"
         ),
-        "1 ok\n2 ok\n3 ok\n4 ok\n5 on\n6 on\n7 done\n8 on\n9 on\n\
-         10 on\n11 done\n12 idle\n13 idle\n14 ok\n15 2 8 1 3 1\n"
+        "1 ok\n2 ok\n3 ok\n4 ok\n5 ok\n6 ok\n7 on\n8 on\n9 done\n10 on\n11 on\n\
+         12 on\n13 done\n14 idle\n15 idle\n16 ok\n17 2 8 1 3 1\n"
     );
 }
 
@@ -403,8 +430,8 @@ fn turns_on_the_sheet() {
 fn a_take_out_by_hand() {
     use Activity::*;
     let mut table = cells([4, 3, 0, 13, 8]);
-    let mut phase = Phase::open(2, 1, &table).unwrap();
-    phase.order(0, 8, 1).unwrap();
+    let mut phase = open(2, 1, &table).unwrap();
+    order(&mut phase, 0, 8).unwrap();
     let ordered = content(8, 0);
     let steps = [
         // Home 3 holds 13; cell 4 holds 8.
@@ -504,8 +531,8 @@ fn a_take_out_by_hand() {
 /// Worker 0 has seen 5 in cell 2 as what replaces 20, then others work.
 fn seeking_back() -> (Phase, [u64; 5]) {
     let mut table = cells([20, 16, 5, 0, 0]);
-    let mut phase = Phase::open(2, 3, &table).unwrap();
-    phase.order(0, 20, 1).unwrap();
+    let mut phase = open(2, 3, &table).unwrap();
+    order(&mut phase, 0, 20).unwrap();
     for _ in 0..4 {
         phase.turn(&mut table, 0).unwrap();
     }
@@ -516,7 +543,7 @@ fn seeking_back() -> (Phase, [u64; 5]) {
         taken: Some((cell(5), 2)),
     };
     assert_eq!(phase.workers[0], seeking);
-    phase.order(1, 16, 1).unwrap();
+    order(&mut phase, 1, 16).unwrap();
     while phase.turn(&mut table, 1).unwrap() == Answer::WentOn {}
     assert_eq!(table, cells([20, 5, 0, 0, 0]));
     (phase, table)
@@ -540,7 +567,7 @@ fn a_nearer_label_is_taken() {
 #[test]
 fn a_nearer_empty_cell_is_taken() {
     let (mut phase, mut table) = seeking_back();
-    phase.order(2, 5, 1).unwrap();
+    order(&mut phase, 2, 5).unwrap();
     while phase.turn(&mut table, 2).unwrap() == Answer::WentOn {}
     assert_eq!(table, cells([20, 0, 0, 0, 0]));
     assert_eq!(phase.turn(&mut table, 0), Ok(Answer::WentOn));
@@ -564,8 +591,7 @@ fn sheet_limits() {
 
 #[test]
 fn a_shut_shift_on_the_sheet() {
-    let shut =
-        "run\norder 0 1 1\norder 0 1\norder\norder \norder x y z\norder 0 01 1\nturn 0\nclose\n";
+    let shut = "run\norder 0\norder 0 1\norder\norder \norder x y z\norder 0 01 1\nturn 0\nclose\n";
     let answers = |first: usize| {
         (first..first + 9)
             .map(|line| format!("{line} refused 11\n"))
@@ -614,6 +640,16 @@ fn bad_lines() {
         "open\t\t1\t1",
         "open\t01\t1",
         "open\t1\t18446744073709551617",
+        "item",
+        "item\t0\t1",
+        "item\t0\t1\t",
+        "item\t0\t1\t1\t",
+        "item\t0\t1\t1\t1",
+        "item\t00\t1\t1",
+        "item\t0\t1\t01",
+        "item\t0\t4294967296\t1",
+        "item\t0\t1\t1\r",
+        "items\t0\t1\t1",
         "turn",
         "turn\t00",
         "turn\t0\t0",
@@ -637,12 +673,14 @@ fn bad_lines() {
         "open\t1\t1",
         "open\t9\t9",
         "open",
+        "item\t0\t1\t1",
+        "item",
         "order",
-        "order\t0",
-        "order\t0\t01\t1",
-        "order\t0\t1\t1\t",
-        "order\t0\t4294967296\t1",
-        "order\t0\t1\t1\r",
+        "order\t",
+        "order\t00",
+        "order\t0\t",
+        "order\t4294967296",
+        "order\t0\r",
     ] {
         let sheet = format!("cells\t5\nopen\t1\t1\n{line}\nlist\n");
         assert_eq!(
@@ -667,10 +705,11 @@ fn ends_of_input() {
 fn run_fields() {
     assert_eq!(
         replay(
-            "cells 5\nopen 1 3\nrun\norder 1 4294967295 1\nrun\nclose\nopen 3 3\norder 0 5\n\
+            "cells 5\nitem 1 4294967295 1\nopen 1 3\nrun\norder 0\nrun\nclose\nopen 3 3\norder 0 5\n\
              order 2 4294967295\nrun\nrun\n"
         ),
-        "1 ok\n2 ok\n3 - - -\n4 ok\n5 - done -\n6 ok\n7 ok\n8 ok\n9 ok\n10 no - 1\n11 - - -\n"
+        "1 ok\n2 ok\n3 ok\n4 - - -\n5 ok\n6 - done -\n7 ok\n8 ok\n9 ok\n10 ok\n\
+         11 no - 1\n12 - - -\n"
     );
 }
 
@@ -679,10 +718,10 @@ fn run_fields() {
 fn list_in_an_open_shift() {
     assert_eq!(
         replay(
-            "cells 5\nopen 1 2\norder 0 3 1\norder 1 8 1\nrun\nclose\nopen 2 1\norder 0 8\n\
-             turn 0\nturn 0\nturn 0\nlist\nturn 0\nlist\nrun\nlist\n"
+            "cells 5\nitem 0 3 1\nitem 1 8 1\nopen 1 2\norder 0\norder 1\nrun\nclose\nopen 2 1\n\
+             order 0 8\nturn 0\nturn 0\nturn 0\nlist\nturn 0\nlist\nrun\nlist\n"
         ),
-        "1 ok\n2 ok\n3 ok\n4 ok\n5 done done\n6 ok\n7 ok\n8 ok\n\
-         9 on\n10 on\n11 on\n12 2 8 1 3 1\n13 on\n14 refused 4\n15 done\n16 1 3 1\n"
+        "1 ok\n2 ok\n3 ok\n4 ok\n5 ok\n6 ok\n7 done done\n8 ok\n9 ok\n10 ok\n\
+         11 on\n12 on\n13 on\n14 2 8 1 3 1\n15 on\n16 refused 4\n17 done\n18 1 3 1\n"
     );
 }

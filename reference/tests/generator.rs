@@ -1,6 +1,6 @@
 //! What the generated sheets reach, and what their replays must show.
 
-use std::collections::BTreeMap;
+use std::collections::{BTreeMap, BTreeSet};
 
 use reference::generate::{sheet, styled, undamaged, Style};
 use reference::layout::{label_of, layout, price_of, Prices};
@@ -19,9 +19,31 @@ fn fields(line: &[u8]) -> Vec<String> {
         .collect()
 }
 
+/// An item: worker, label, price.
+type Item = (u32, u32, u32);
+
+/// What a put-in opening answers on a sound table of these labels.
+fn put_in_opening(n: usize, set: &Prices, items: &[Item], count: u32) -> String {
+    let fault = items.iter().find_map(|&(worker, label, price)| {
+        let faults = [
+            (label == 0, 7),
+            (!(1..=9_999_999).contains(&price), 14),
+            (worker >= count, 6),
+        ];
+        faults.into_iter().find(|fault| fault.0)
+    });
+    let labels: BTreeSet<u32> = items.iter().map(|item| item.1).collect();
+    let together = labels.iter().chain(set.keys()).collect::<BTreeSet<_>>();
+    match fault {
+        Some((_, number)) => format!("refused {number}"),
+        None if together.len() >= n => "refused 9".to_string(),
+        None => "ok".to_string(),
+    }
+}
+
 /// Follows a replay from outside: line numbers, shares of answers, every
-/// look-up's answer, and every list after a close against the layout. Returns
-/// the accepted closes.
+/// look-up's answer, every put-in opening, and every list after a close against
+/// the layout. Returns the accepted closes.
 fn follow(text: &[u8], words: &mut BTreeMap<String, usize>) -> usize {
     let output = replay_bytes(text);
     assert!(output.is_empty() || output.ends_with(b"\n"));
@@ -29,6 +51,7 @@ fn follow(text: &[u8], words: &mut BTreeMap<String, usize>) -> usize {
     assert!(answers.len() <= sheet.len());
     let (mut n, mut kind, mut open) = (0, 0, false);
     let mut set = Prices::new();
+    let mut items: Vec<Item> = Vec::new();
     let mut ordered: Vec<(u32, u32)> = Vec::new();
     // The label that each worker looks up.
     let mut sought = BTreeMap::new();
@@ -48,7 +71,18 @@ fn follow(text: &[u8], words: &mut BTreeMap<String, usize>) -> usize {
             return closes;
         }
         let found = |label: u32| set.get(&label).map_or("no".to_string(), u32::to_string);
+        if line.starts_with(&["open".to_string(), "1".to_string()]) && n > 0 {
+            let count: u32 = line[2].parse().unwrap();
+            if (1..=16).contains(&count) {
+                let expected = put_in_opening(n, &set, &items, count);
+                assert_eq!(answer[1..].join(" "), expected);
+            }
+        }
         match (line[0].as_str(), answer[1].as_str()) {
+            ("item", "ok") => {
+                let numbers: Vec<u32> = line[1..].iter().map(|f| f.parse().unwrap()).collect();
+                items.push((numbers[0], numbers[1], numbers[2]));
+            }
             ("cells", "ok") => {
                 n = line[1].parse().unwrap();
                 set.clear();
@@ -59,16 +93,18 @@ fn follow(text: &[u8], words: &mut BTreeMap<String, usize>) -> usize {
                 ordered.clear();
             }
             ("order", "ok") => {
-                let label = line[2].parse().unwrap();
-                let price = if kind == 1 {
-                    line[3].parse().unwrap()
+                let first: usize = line[1].parse().unwrap();
+                if kind == 1 {
+                    assert_eq!(line.len(), 2);
+                    let (_, label, price) = items[first];
+                    ordered.push((label, price));
                 } else {
                     assert_eq!(line.len(), 3);
-                    0
-                };
-                ordered.push((label, price));
-                if kind == 3 {
-                    sought.insert(line[1].clone(), label);
+                    let label = line[2].parse().unwrap();
+                    ordered.push((label, 0));
+                    if kind == 3 {
+                        sought.insert(line[1].clone(), label);
+                    }
                 }
             }
             ("turn", "on" | "done" | "idle" | "refused") => {}
@@ -85,6 +121,9 @@ fn follow(text: &[u8], words: &mut BTreeMap<String, usize>) -> usize {
             ("close", "ok") => {
                 open = false;
                 closes += 1;
+                if kind == 1 {
+                    items.clear();
+                }
                 for &(label, price) in &ordered {
                     if kind == 1 {
                         let least = set.entry(label).or_insert(price);
@@ -138,12 +177,12 @@ fn sheets_reach_everything() {
     ] {
         assert!(words.get(word).is_some_and(|&n| n > 100), "{word}");
     }
-    // 5, 12 and 13 can't come from a sheet; 4 only by a list.
-    for number in [1, 2, 3, 4, 6, 7, 8, 9, 10, 11, 14] {
+    // 5, 12, 13 and 16 can't come from a sheet; 4 only by a list.
+    for number in [1, 2, 3, 4, 6, 7, 8, 9, 10, 11, 14, 15] {
         let word = format!("refused {number}");
         assert!(words.get(&word).is_some_and(|&n| n > 30), "{word}");
     }
-    for number in [5, 12, 13] {
+    for number in [5, 12, 13, 16] {
         assert_eq!(words.get(&format!("refused {number}")), None);
     }
     assert!(several * 4 > sheets as usize * 3);

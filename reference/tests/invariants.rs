@@ -6,7 +6,7 @@ use reference::generate::{price, Rng};
 use reference::layout::{
     content, is_sound, label_of, layout, least_prices, way_is_greater, Prices,
 };
-use reference::phase::{Activity, Answer, Phase, LOOK_UP, PUT_IN, TAKE_OUT};
+use reference::phase::{Activity, Answer, Order, Phase, LOOK_UP, PUT_IN, TAKE_OUT};
 
 fn prices(table: &[u64]) -> Prices {
     least_prices(table.iter().copied())
@@ -114,6 +114,20 @@ fn checked_turn(
     answer
 }
 
+/// Of these orders the first whose labels leave a cell empty beside those of
+/// the table.
+fn room_for(opening: &Prices, n: usize, mut orders: Vec<Order>) -> Vec<Order> {
+    let mut labels = opening.clone();
+    orders.retain(|order| {
+        let fits = labels.len() + 1 < n || labels.contains_key(&order.label);
+        if fits {
+            labels.insert(order.label, order.price);
+        }
+        fits
+    });
+    orders
+}
+
 /// Random shifts, one after another on the same table.
 #[test]
 fn random_shifts() {
@@ -134,24 +148,43 @@ fn random_shifts() {
             let kind = rng.pick(&[1, 1, 1, 2, 2, 3]);
             let count = rng.pick(&[1, 2, 2, 3, 4, 5, 16]);
             let opening = prices(&table);
-            let mut phase = Phase::open(kind, count as u64, &table).unwrap();
+            let list = room_for(
+                &opening,
+                n,
+                (0..rng.below(2 * n))
+                    .map(|_| Order {
+                        worker: rng.below(count) as u32,
+                        label: label(rng),
+                        price: price(rng),
+                    })
+                    .collect(),
+            );
+            let mut phase = Phase::open(kind, count as u64, &table, &list).unwrap();
             let mut wanted = rng.below(2 * count + n);
             let mut ordered = Vec::new();
             let mut turns = 0;
             while wanted > 0 || !phase.all_idle() {
                 let worker = rng.below(count);
-                if wanted > 0 && phase.workers[worker] == Activity::Idle {
+                if wanted > 0 && rng.once_in(2) {
                     wanted -= 1;
-                    let (label, price) = (label(rng), price(rng));
-                    let room = n - opening.len() - 1;
-                    match phase.order(worker as u64, label, price) {
-                        Ok(()) => ordered.push((label, price)),
-                        Err(refusal) => {
-                            assert_eq!(refusal, 9);
-                            assert_eq!(ordered.len(), room);
+                    // Any line of the list, any number of times.
+                    let line = rng.below(list.len() + 1);
+                    let (worker, label, price) = match list.get(line) {
+                        Some(order) if kind == 1 => {
+                            (order.worker as usize, order.label, order.price)
                         }
+                        _ => (worker, label(rng), 0),
+                    };
+                    let idle = phase.workers[worker] == Activity::Idle;
+                    let answer = phase.order(&list, line as u64, worker as u64, label);
+                    if kind == 1 && line == list.len() {
+                        assert_eq!(answer, Err(15));
+                    } else if idle {
+                        assert_eq!(answer, Ok(()));
+                        ordered.push((label, price));
+                    } else {
+                        assert_eq!(answer, Err(8));
                     }
-                    assert!(phase.kind != PUT_IN || ordered.len() + phase.orders_left == room);
                     continue;
                 }
                 // Sometimes one worker gets many turns in a row.
@@ -176,6 +209,8 @@ struct Walk {
     n: usize,
     opening: Prices,
     orders: Vec<(u32, u32)>,
+    /// Each order for each worker.
+    list: Vec<Order>,
     /// States seen: true if wholly explored, false while on the path.
     seen: HashMap<(Vec<u64>, Vec<Activity>, usize), bool>,
     ends: usize,
@@ -194,8 +229,10 @@ impl Walk {
             let mut phase = phase.clone();
             if phase.workers[worker] == Activity::Idle {
                 if given < self.orders.len() {
-                    let (label, price) = self.orders[given];
-                    phase.order(worker as u64, label, price).unwrap();
+                    let line = given * phase.count + worker;
+                    let label = self.orders[given].0;
+                    let answer = phase.order(&self.list, line as u64, worker as u64, label);
+                    answer.unwrap();
                     self.explore(&phase, table, given + 1);
                 }
             } else {
@@ -217,14 +254,28 @@ impl Walk {
 
 fn explore(kind: u32, count: usize, n: usize, opening: &Prices, orders: &[(u32, u32)]) {
     let table = layout(n, opening);
-    let phase = Phase::open(kind.into(), count as u64, &table).unwrap();
-    if kind == PUT_IN && phase.orders_left < orders.len() {
-        return;
-    }
+    let order = |worker, (label, price)| Order {
+        worker,
+        label,
+        price,
+    };
+    let list: Vec<Order> = orders
+        .iter()
+        .flat_map(|&entry| (0..count as u32).map(move |worker| order(worker, entry)))
+        .collect();
+    let phase = match Phase::open(kind.into(), count as u64, &table, &list) {
+        Ok(phase) => phase,
+        Err(number) => {
+            assert_eq!(number, 9);
+            assert!(expected(kind, opening, orders).len() >= n);
+            return;
+        }
+    };
     let mut walk = Walk {
         n,
         opening: opening.clone(),
         orders: orders.to_vec(),
+        list,
         seen: HashMap::new(),
         ends: 0,
     };
@@ -352,8 +403,8 @@ fn one_sound_table_per_set() {
 }
 
 /// Two shifts on one table, with equal labels and equal least prices ordered,
-/// close on one table: another crew, other turns, another sequence, and more
-/// orders at prices that aren't lower.
+/// close on one table: another crew, other turns, another sequence, another
+/// list, and more orders at prices that aren't lower.
 #[test]
 fn equal_least_prices_close_alike() {
     let mut more = 0;
@@ -371,29 +422,30 @@ fn equal_least_prices_close_alike() {
         let mut second: Vec<(u32, u32)> = expected(PUT_IN, &Prices::new(), &first)
             .into_iter()
             .collect();
-        while second.len() < room && !rng.once_in(3) {
+        while !rng.once_in(3) {
             let (label, least) = rng.pick(&second);
             let dearer = least + rng.below(3) as u32;
             second.push((label, dearer.min(9_999_999)));
             more += 1;
         }
-        for i in 0..second.len() {
-            let j = rng.within(i, second.len() - 1);
-            second.swap(i, j);
-        }
+        rng.shuffle(&mut second);
         let tables = [&first, &second].map(|orders| {
             let mut table = layout(n, &opening);
             let count = rng.within(1, 16);
-            let mut phase = Phase::open(1, count as u64, &table).unwrap();
+            let order = |&(label, price): &(u32, u32)| Order {
+                worker: rng.below(count) as u32,
+                label,
+                price,
+            };
+            let list: Vec<Order> = orders.iter().map(order).collect();
+            let mut phase = Phase::open(1, count as u64, &table, &list).unwrap();
             let mut given = 0;
-            while given < orders.len() || !phase.all_idle() {
-                let worker = rng.below(count);
-                if given < orders.len() && phase.workers[worker] == Activity::Idle {
-                    let (label, price) = orders[given];
-                    phase.order(worker as u64, label, price).unwrap();
-                    given += 1;
+            while given < list.len() || !phase.all_idle() {
+                if given < list.len() && rng.once_in(2) {
+                    // A line whose worker is busy waits.
+                    given += usize::from(phase.order(&list, given as u64, 0, 0).is_ok());
                 } else {
-                    phase.turn(&mut table, worker as u64).unwrap();
+                    phase.turn(&mut table, rng.below(count) as u64).unwrap();
                 }
             }
             phase.close().unwrap();
@@ -423,7 +475,6 @@ fn forged_records() {
         phase.kind = rng.pick(&[1, 2, 2, 2, 3]);
         phase.length = n;
         phase.count = rng.within(1, 16);
-        phase.orders_left = rng.below(n);
         phase.open = true;
         let worker = rng.below(phase.count);
         let cell = |rng: &mut Rng| {

@@ -1,20 +1,26 @@
 -- What a line to one worker leaves, from what the calls on that worker by itself ensure.
-use mathlib.Core.Path.{_≡_, refl, ap, subst, _∙_}
+use mathlib.Core.Path.{_≡_, refl, sym, ap, subst, _∙_}
 use mathlib.Core.Bool.{true, false}
 use mathlib.Core.List.{List, [], _∷_, _++_}
 use Prim.Native.Nat.{ℕ, _+_, _^_, _≤_, _<_}
 use native.Mathlib.Omega.{arith}
 use lib.ListN.{length, getD, take, drop, length-append, length-drop}
 use lib.Seq.{length-take-le}
+use borrow.Author.Tests.{eqb-true, eqb-false}
+use lib.Dec.{eqb}
 use Rattle.prices.specs.Contents.{label}
+use Rattle.orders.specs.Orders.{orderWith, lineAt, keptOrders}
+use Rattle.orders.specs.declared.Found.{Found}
+use Rattle.orders.specs.declared.Order.{Order}
 use Rattle.activities.specs.Activities.{activityOk, idle}
-use Rattle.state.specs.Model.{gateway}
+use Rattle.state.specs.Model.{Model, gateway}
 use Rattle.state.proofs.Model.{gateway-proper}
+use Rattle.state.specs.declared.Phase.{Phase}
 use Rattle.state.specs.declared.Replied.{Replied}
 use Rattle.state.specs.declared.Reply.{Reply}
 use Rattle.activities.specs.declared.Worker.{Worker}
 use Rattle.protocol.specs.declared.TurnReply.{TurnReply}
-use Rattle.protocol.specs.Calls.{withWorker, withLeft, orderCall}
+use Rattle.protocol.specs.Calls.{withWorker, orderTo, orderFound, orderCall}
 use Rattle.protocol.specs.Split.{oneOrder, oneTurn, oneTable}
 use Rattle.protocol.specs.IsWellFormed.{isWellFormed}
 use Rattle.protocol.specs.declared.Given.{Given}
@@ -22,6 +28,7 @@ use Rattle.protocol.specs.declared.Moved.{Moved}
 use Rattle.protocol.proofs.Ordering.{with-given, order-by-one}
 use Rattle.protocol.proofs.Turning.{with-moved, turn-by-one, one-long}
 use Rattle.protocol.proofs.WellFormed.{good-worker as worker-good}
+use Rattle.text.proofs.Test.{by-test}
 use Rattle.text.specs.Digits.{digitsOf}
 use Rattle.text.specs.Put.{putAt, placeAfter}
 use Rattle.lines.specs.declared.Command.{Command}
@@ -33,108 +40,146 @@ use Rattle.dealing.specs.Reached.{Reached}
 use Rattle.dealing.proofs.Reached.{formed, sized, passed, crew, cells as opened-cells}
 use Rattle.answering.specs.declared.Done.{Done}
 use Rattle.answering.specs.declared.Replay.{Replay}
-use Rattle.fitting.specs.declared.Task.the-variants.{Perform}
 use Rattle.sheet.specs.Replay.{commanded, longestAnswer}
-use Rattle.answering.specs.Store.{stateOf, toldOf, Does, Ready, Answers}
+use Rattle.answering.specs.Store.{stateOf, toldOf, repliedOf, Does, Ready, Answers}
 use Rattle.answering.specs.declared.Answered.{Answered}
 use Rattle.answering.specs.declared.Ordered.{Ordered}
 use Rattle.answering.specs.declared.Stepped.{Stepped}
 use Rattle.fitting.specs.declared.Aim.{Aim}
 use Rattle.answering.specs.One.{lineWith, OrderAnswers, TurnAnswers}
-use Rattle.fitting.proofs.Fitting.{ToWorker, Aimed}
-use Rattle.answering.proofs.Store.{table-length, turns, tells-on}
+use Rattle.fitting.specs.Fitting.{mostItems}
+use Rattle.fitting.proofs.Fitting.{Names, Aimed}
+use Rattle.answering.proofs.Store.{inside, table-length, turns, tells-on}
 use Rattle.answering.proofs.Answering.{room-left, line-printed, answers-todo}
 use Rattle.printing.specs.Widths.{replyWidth}
 
 -- the replay with worker w gone on, behind a line
-abbrev pub went : Replay → ℕ → Worker → ℕ → ℕ → Answered
-went x w a left end = record { replay = record { phase = withLeft (withWorker (x .phase) w (a .activity)) left; length = x .length }; at = end; ended = false }
+abbrev pub went : Replay → ℕ → Worker → ℕ → Answered
+went x w a end = record { replay = record { phase = withWorker (x .phase) w (a .activity); length = x .length; items = x .items }; at = end; ended = false }
+
+-- ---- the order that a line names is the one that the call asks for
+module _ (M : Model) (p : Phase) (o : Order) where
+  abbrev given : Replied
+  given = orderTo M p false (o .worker) (o .key) (o .price)
+
+  by-place : (f : Found) (w v : ℕ) → f ≡ record { there = true; order = o } → eqb (p .kind) 1 ≡ true → orderFound M p f w v ≡ given
+  by-place f w v e t = ap (λ (x : Found). orderFound M p x w v) e ∙ rw t refl
+
+  by-key : (f : Found) (w v : ℕ) → o ≡ orderWith v 0 w → eqb (p .kind) 1 ≡ false → orderFound M p f w v ≡ given
+  by-key f w v e t = rw t refl ∙ ap (λ (x : Order). orderTo M p false (x .worker) (x .key) (x .price)) (sym e)
+
+  names-asked : (l : Line) (os : List Order) → Names (p .kind) l os o
+      → orderCall M p os (getD (l .numbers .values) 0 0) (getD (l .numbers .values) 0 0) (getD (l .numbers .values) 1 0) ≡ given
+  names-asked l os names =
+      let i = getD (l .numbers .values) 0 0 in
+      let v = getD (l .numbers .values) 1 0 in
+      by-test (eqb (p .kind) 1)
+      (λ t. by-place (lineAt os i) i v (names .placed (eqb-true (p .kind) 1 t)) t)
+      (λ t. by-key (lineAt os i) i v (names .named (eqb-false (p .kind) 1 t)) t)
 
 -- ---- a replay whose phase is open, and a worker of it
-module _ (cells : List ℕ) (w : ℕ) (x : Replay) (ready : Ready x cells) (up : x .phase .shut ≡ false) (below : w < x .phase .crew) where
+module _ (cells items : List ℕ) (w : ℕ) (x : Replay) (ready : Ready x cells items) (up : x .phase .shut ≡ false) (below : w < x .phase .crew) where
   abbrev table : List ℕ
   table = take (x .length) cells
 
   abbrev worker : Worker
   worker = getD (x .phase .workers) w idle
 
-  abbrev reached : Reached gateway (x .phase) table
+  abbrev list : List Order
+  list = keptOrders mostItems (x .items) items
+
+  abbrev reached : Reached gateway list (x .phase) table
   reached = ready .valid .reached up
 
   good : isWellFormed gateway (x .phase) ≡ true
-  good = formed gateway gateway-proper (reached .kind) (reached .crew) (reached .opened) (x .phase) table (reached .by)
+  good = formed gateway gateway-proper (reached .kind) (reached .crew) (reached .opened) list (x .phase) table (reached .by)
 
   fits : x .phase .length ≡ length table
-  fits = sized gateway gateway-proper (reached .kind) (reached .crew) (reached .opened) (x .phase) table (reached .by)
+  fits = sized gateway gateway-proper (reached .kind) (reached .crew) (reached .opened) list (x .phase) table (reached .by)
 
-  turn-here : (l : Line) → ToWorker (x .phase .kind) (x .phase .shut) l (x .phase .crew) Command.Turn w
+  turn-here : (l : Line) → Aimed (x .phase .kind) (x .phase .shut) l (x .phase .crew) list (Aim.Turn w)
       → (m : Moved) (u : List ℕ) → m ≡ oneTurn gateway (x .phase .kind) (x .phase .length) table worker
-      → u ≡ oneTable gateway (x .phase .kind) (x .phase .length) table worker → length u ≡ length table → (kept : length (u ++ drop (x .length) cells) ≡ length cells)
+      → u ≡ oneTable gateway (x .phase .kind) (x .phase .length) table worker → length u ≡ length table
+      → (kept : length (u ++ drop (x .length) cells) ≡ length cells)
       → (n at : ℕ) (out out′ : List ℕ) (end : ℕ) → PrintedWithin longestAnswer (lineWith n (turnFields (m .reply))) out at out′ end
-      → Answers (stateOf x cells) n l cells out at (u ++ drop (x .length) cells) out′ (went x w (m .worker) (x .phase .left) end)
+      → Answers (stateOf x cells items) n l cells out at (u ++ drop (x .length) cells) items out′ (went x w (m .worker) end)
   turn-here l to m u e f long kept n at out out′ end p =
       let (a, b) = turn-by-one gateway (x .phase) table w good up fits below in
-      let d : Done = toldOf (with-moved (x .phase) w m .phase) (x .length) (told.Turned (m .reply)) in
-      let does : Does (commanded (stateOf x cells) Command.Turn (l .numbers .values)) cells (u ++ drop (x .length) cells) d =
-      rw (to .worker) (turns x cells (ready .roomy) w (with-moved (x .phase) w m) u d (ap (with-moved (x .phase) w) e ∙ a, f ∙ b) long refl) in
-      answers-todo x cells ready l (Perform Command.Turn) (to .asked) d (u ++ drop (x .length) cells) does kept n at out out′ end p
+      let d : Done = toldOf (with-moved (x .phase) w m .phase) (x .length) (x .items) (told.Turned (m .reply)) in
+      let does : Does (commanded (stateOf x cells items) Command.Turn (l .numbers .values)) cells (u ++ drop (x .length) cells) items d =
+      rw (to .1) (turns (ready .roomy) w (with-moved (x .phase) w m) u d (ap (with-moved (x .phase) w) e ∙ a, f ∙ b) long refl items (ready .kept)) in
+      answers-todo ready l (to .0 .asked) does kept refl n at out out′ end p
 
-  order-here : (l : Line) (v cents : ℕ) → ToWorker (x .phase .kind) (x .phase .shut) l (x .phase .crew) Command.Order w → getD (l .numbers .values) 1 0 ≡ v → getD (l .numbers .values) 2 0 ≡ cents
-      → (g : Given) → g ≡ oneOrder gateway (x .phase .kind) (x .phase .length) (x .phase .left) worker v cents
+  order-here : (l : Line) (v cents : ℕ) → Aimed (x .phase .kind) (x .phase .shut) l (x .phase .crew) list (Aim.Order w v cents)
+      → (g : Given) → g ≡ oneOrder gateway (x .phase .kind) (x .phase .length) worker v cents
       → (n at : ℕ) (out out′ : List ℕ) (end : ℕ) → PrintedWithin longestAnswer (lineWith n (replyFields (g .reply))) out at out′ end
-      → Answers (stateOf x cells) n l cells out at cells out′ (went x w (g .worker) (g .left) end)
-  order-here l v cents to key cost g e n at out out′ end p =
-      let a = order-by-one gateway (x .phase) w v cents good up below in
-      let o : Replied = orderCall gateway (x .phase) w v cents in
-      let d : Done = toldOf (with-given (x .phase) w g .phase) (x .length) (told.Replied (g .reply)) in
-      let same : d ≡ toldOf (o .phase) (x .length) (told.Replied (o .reply)) =
-      ap (λ (y : Replied). toldOf (y .phase) (x .length) (told.Replied (y .reply))) (ap (with-given (x .phase) w) e ∙ a) in
-      let does : Does (commanded (stateOf x cells) Command.Order (l .numbers .values)) cells cells d =
-      rw (to .worker, key, cost) (tells-on x cells (ready .roomy) (o .phase) (told.Replied (o .reply)) d same) in
-      answers-todo x cells ready l (Perform Command.Order) (to .asked) d cells does refl n at out out′ end p
+      → Answers (stateOf x cells items) n l cells out at cells items out′ (went x w (g .worker) end)
+  order-here l v cents to g e n at out out′ end p =
+      let ns = l .numbers .values in
+      let o : Replied = orderCall gateway (x .phase) list (getD ns 0 0) (getD ns 0 0) (getD ns 1 0) in
+      let d : Done = repliedOf (x .length) (x .items) (with-given (x .phase) w g) in
+      let called : with-given (x .phase) w g ≡ o =
+      ap (with-given (x .phase) w) e ∙ order-by-one gateway (x .phase) w v cents good up below
+      ∙ sym (names-asked gateway (x .phase) (orderWith v cents w) l list (to .1)) in
+      let same : d ≡ repliedOf (x .length) (x .items) o = ap (repliedOf (x .length) (x .items)) called in
+      let does : Does (commanded (stateOf x cells items) Command.Order ns) cells cells items d =
+      tells-on (ready .roomy) items (ready .kept) (o .phase) (told.Replied (o .reply)) d same in
+      answers-todo ready l (to .0 .asked) does refl refl n at out out′ end p
 
 stays : (u cells : List ℕ) (k : ℕ) → k ≤ length cells → length u ≡ length (take k cells) → length (u ++ drop k cells) ≡ length cells
 stays u cells k b l = omega (arith, length-append u (drop k cells), length-drop k cells, length-take-le k cells b)
 
 -- ---- what the functions ensure, said of a replay that has this worker
-module _ {cells : List ℕ} {w : ℕ} {x : Replay} (ready : Ready x cells) {l : Line} {number at : ℕ} {out out′ : List ℕ} where
-  pub order-line : {v cents : ℕ} {r : Ordered} → Aimed (x .phase .kind) (x .phase .shut) l (x .phase .crew) (Aim.Order w v cents)
-      → OrderAnswers (x .phase .kind) (x .phase .length) (x .phase .left) (getD (x .phase .workers) w idle) v cents number out at out′ r
-      → Answers (stateOf x cells) number l cells out at cells out′ (went x w (r .worker) (r .left) (r .at))
+module _ {cells items : List ℕ} {w : ℕ} {x : Replay} (ready : Ready x cells items) {l : Line} {number at : ℕ} {out out′ : List ℕ} where
+  pub order-line : {v cents : ℕ} {r : Ordered}
+      → Aimed (x .phase .kind) (x .phase .shut) l (x .phase .crew) (keptOrders mostItems (x .items) items) (Aim.Order w v cents)
+      → OrderAnswers (x .phase .kind) (x .phase .length) (getD (x .phase .workers) w idle) v cents number out at out′ r
+      → Answers (stateOf x cells items) number l cells out at cells items out′ (went x w (r .worker) (r .at))
   order-line {v} {cents} {r} to h =
-      rw (h .worker, h .left) (order-here cells w x ready (to .0 .up) (to .0 .below) l v cents (to .0) (to .1) (to .2) _ refl number at out out′ (r .at) (h .printed))
+      rw (h .worker) (order-here cells items w x ready (to .0 .up) (to .0 .below) l v cents to _ refl number at out out′ (r .at) (h .printed))
 
-  pub turn-line : {cells′ : List ℕ} {r : Stepped} → Aimed (x .phase .kind) (x .phase .shut) l (x .phase .crew) (Aim.Turn w)
+  pub turn-line : {cells′ : List ℕ} {r : Stepped}
+      → Aimed (x .phase .kind) (x .phase .shut) l (x .phase .crew) (keptOrders mostItems (x .items) items) (Aim.Turn w)
       → TurnAnswers (x .phase .kind) (x .phase .length) (getD (x .phase .workers) w idle) number (x .length) cells out at cells′ out′ r
-      → Answers (stateOf x cells) number l cells out at cells′ out′ (went x w (r .worker) (x .phase .left) (r .at))
+      → Answers (stateOf x cells items) number l cells out at cells′ items out′ (went x w (r .worker) (r .at))
   turn-line {r = r} to h =
       let t = take (x .length) cells in
       let a = getD (x .phase .workers) w idle in
       let long = one-long gateway (x .phase .kind) (x .phase .length) t a in
-      let kept = stays (oneTable gateway (x .phase .kind) (x .phase .length) t a) cells (x .length) (omega (arith, ready .roomy .fits, ready .roomy .most)) long in
-      rw (h .worker, h .store) (turn-here cells w x ready (to .up) (to .below) l to _ _ refl refl long kept number at out out′ (r .at) (h .printed))
+      let kept = stays (oneTable gateway (x .phase .kind) (x .phase .length) t a) cells (x .length) (inside (ready .roomy)) long in
+      rw (h .worker, h .store) (turn-here cells items w x ready (to .0 .up) (to .0 .below) l to _ _ refl refl long kept number at out out′ (r .at) (h .printed))
 
 -- the phase's length is not 0
-pub some-cells : (cells : List ℕ) (x : Replay) → Ready x cells → x .phase .shut ≡ false → 0 < x .phase .length
-some-cells cells x ready up =
+pub some-cells : (cells items : List ℕ) (x : Replay) → Ready x cells items → x .phase .shut ≡ false → 0 < x .phase .length
+some-cells cells items x ready up =
     let r = ready .valid .reached up in
+    let os = keptOrders mostItems (x .items) items in
     let t = take (x .length) cells in
-    omega (arith, opened-cells gateway gateway-proper (r .kind) (r .crew) (r .opened) (x .phase) t (r .by), passed gateway gateway-proper (r .kind) (r .crew) (r .opened) (x .phase) t (r .by) .0)
+    omega (
+      arith,
+      opened-cells gateway gateway-proper (r .kind) (r .crew) (r .opened) os (x .phase) t (r .by),
+      passed gateway gateway-proper (r .kind) (r .crew) (r .opened) os (x .phase) t (r .by) .size,
+    )
 
 -- the phase has no more workers than the record has places
-pub few-crew : (cells : List ℕ) (x : Replay) → Ready x cells → x .phase .shut ≡ false → x .phase .crew ≤ gateway .room
-few-crew cells x ready up =
+pub few-crew : (cells items : List ℕ) (x : Replay) → Ready x cells items → x .phase .shut ≡ false → x .phase .crew ≤ gateway .room
+few-crew cells items x ready up =
     let r = ready .valid .reached up in
+    let os = keptOrders mostItems (x .items) items in
     let t = take (x .length) cells in
-    omega (arith, crew gateway gateway-proper (r .kind) (r .crew) (r .opened) (x .phase) t (r .by), passed gateway gateway-proper (r .kind) (r .crew) (r .opened) (x .phase) t (r .by) .1)
+    omega (
+      arith,
+      crew gateway gateway-proper (r .kind) (r .crew) (r .opened) os (x .phase) t (r .by),
+      passed gateway gateway-proper (r .kind) (r .crew) (r .opened) os (x .phase) t (r .by) .crew,
+    )
 
 -- what a turn of one of its workers must find
-pub good-worker : (cells : List ℕ) (x : Replay) → Ready x cells → x .phase .shut ≡ false → (w : ℕ) → w < x .phase .crew
+pub good-worker : (cells items : List ℕ) (x : Replay) → Ready x cells items → x .phase .shut ≡ false → (w : ℕ) → w < x .phase .crew
     → (activityOk (x .phase .kind) (x .phase .length) label (getD (x .phase .workers) w idle .activity) ≡ true) × (x .phase .length ≡ x .length)
-good-worker cells x ready up w below =
+good-worker cells items x ready up w below =
     let p = x .phase in (
-      worker-good gateway p (good cells w x ready up below) w below,
-      fits cells w x ready up below ∙ table-length (ready .roomy),
+      worker-good gateway p (good cells items w x ready up below) w below,
+      fits cells items w x ready up below ∙ table-length (ready .roomy),
     )
 
 -- ---- what is printed: the number, then the fields that tell a reply
@@ -151,13 +196,12 @@ pub reply-printed : (n : ℕ) (reply : Reply) {out between written after : List 
 reply-printed n reply fits room e m f = line-printed n fits room (omega arith) e (soon (reply-short reply) m) f
 
 -- ---- what the calls on one worker ensure, with what is printed
-pub order-told : {k n few : ℕ} {a : Worker} {v cents number : ℕ} {out out′ : List ℕ} {at end : ℕ} {g : Given} → g ≡ oneOrder gateway k n few a v cents
+pub order-told : {k n : ℕ} {a : Worker} {v cents number : ℕ} {out out′ : List ℕ} {at end : ℕ} {g : Given} → g ≡ oneOrder gateway k n a v cents
     → PrintedWithin longestAnswer (lineWith number (replyFields (g .reply))) out at out′ end
-    → OrderAnswers k n few a v cents number out at out′ (record { worker = g .worker; left = g .left; at = end })
+    → OrderAnswers k n a v cents number out at out′ (record { worker = g .worker; at = end })
 order-told {number = number} {out} {out′} {at} {end} e p =
     record {
       worker = ap (λ (x : Given). x .worker) e;
-      left = ap (λ (x : Given). x .left) e;
       printed = subst (λ (x : Given). PrintedWithin longestAnswer (lineWith number (replyFields (x .reply))) out at out′ end) e p;
     }
 

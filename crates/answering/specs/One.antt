@@ -16,11 +16,10 @@ use Rattle.sheet.specs.Replay.{longestAnswer}
 abbrev pub lineWith : ℕ → List ℕ → List ℕ
 lineWith n fields = digitsOf n ++ (fields ++ 10 ∷ [])
 
--- line `number`, an order of v at a price to worker a in a phase of kind k, length n and so many insert operations left
-pub record OrderAnswers (k n few : ℕ) (a : Worker) (v cents number : ℕ) (out : List ℕ) (at : ℕ) (out′ : List ℕ) (r : Ordered) : Type 0 where
-  pub worker : r .worker ≡ oneOrder gateway k n few a v cents .worker
-  pub left : r .left ≡ oneOrder gateway k n few a v cents .left
-  pub printed : PrintedWithin longestAnswer (lineWith number (replyFields (oneOrder gateway k n few a v cents .reply))) out at out′ (r .at)
+-- line `number`, an order of v at a price to worker a in a phase of kind k and length n
+pub record OrderAnswers (k n : ℕ) (a : Worker) (v cents number : ℕ) (out : List ℕ) (at : ℕ) (out′ : List ℕ) (r : Ordered) : Type 0 where
+  pub worker : r .worker ≡ oneOrder gateway k n a v cents .worker
+  pub printed : PrintedWithin longestAnswer (lineWith number (replyFields (oneOrder gateway k n a v cents .reply))) out at out′ (r .at)
 
 -- line `number`, a turn of worker a in a phase of kind k and length n, whose table is the first of the cells
 pub record TurnAnswers (k n : ℕ) (a : Worker) (number places : ℕ) (cells out : List ℕ) (at : ℕ) (cells′ out′ : List ℕ) (r : Stepped) : Type 0 where

@@ -18,17 +18,21 @@ ghost use Rattle.prices.specs.Contents.{label};
 ghost use Rattle.activities.specs.Activities.{activityOk};
 ghost use Rattle.state.specs.Model.{gateway};
 ghost use Rattle.state.specs.Open.{openCall};
+ghost use Rattle.orders.specs.Orders.{keptOrders};
 ghost use Rattle.protocol.specs.Calls.{closeCall, orderCall};
-ghost use Rattle.sheet.specs.Replay.{longestAnswer, blank, cellsTask, turnTask, runTask, listTask, calls, commanded, performed};
-ghost use Rattle.sheet.specs.Valid.{RunFinds};
-ghost use Rattle.answering.specs.Store.{stateOf, replayOf, doneOf, toldOf, Roomy, Does, Ready, Answers};
+ghost use Rattle.tables.specs.Calls.{listCall};
+ghost use Rattle.fitting.specs.Fitting.{mostItems, Kept};
+ghost use Rattle.sheet.specs.Replay.{State, longestAnswer, blank, cellsTask, turnTask, runTask, listTold, commanded, performed};
+ghost use Rattle.answering.specs.Store.{stateOf, replayOf, toldOf, repliedOf, countAfter, Roomy, Does, Leaves, Finds, Adds, Ready, Answers};
 ghost use Rattle.answering.specs.One.{OrderAnswers, TurnAnswers};
-ghost use Rattle.dealing.specs.Reached.{Reached};
+ghost use Rattle.dealing.specs.Reached.{Led};
 
-// What is kept from line to line, beside the lent cells: the phase, and how many of the cells are the table.
+// What is kept from line to line, beside the lent cells and the numbers of the items: the phase, how many of the cells are the table, and how many items
+// there are.
 pub struct Replay {
     pub phase: Phase,
     pub length: usize,
+    pub items: usize,
 }
 
 impl Replay {
@@ -53,14 +57,13 @@ pub struct Answered {
     pub ended: bool,
 }
 
-// What an order to one worker leaves: the worker, the insert operations left, and the place behind what the line printed.
+// What an order to one worker leaves: the worker, and the place behind what the line printed.
 pub struct Ordered {
     pub worker: Worker,
-    pub left: u32,
     pub at: usize,
 }
 
-// What a turn of one worker leaves: the worker, and the place behind what the line printed.
+// What a turn of one worker leaves.
 pub struct Stepped {
     pub worker: Worker,
     pub at: usize,
@@ -71,18 +74,27 @@ pub fn start() -> Replay
     ensures { λ r. ⌜ r ≡ replayOf blank ⌝ }
 {
     let one = [0u64; 1];
-    let refused = Phase::open(3, 1, &one);
+    let none = [0u32; 1];
+    let refused = Phase::open_parallel(3, 1, &one, &none, &none, &none);
     let phase = refused.phase;
-    Replay { phase, length: 0 }
+    Replay {
+        phase,
+        length: 0,
+        items: 0,
+    }
 }
 
 // ---- the tasks
-fn tell(phase: Phase, length: usize, told: Told) -> Done
-    ensures { λ r. ⌜ r ≡ toldOf phase length told ⌝ }
+fn tell(phase: Phase, length: usize, items: usize, told: Told) -> Done
+    ensures { λ r. ⌜ r ≡ toldOf phase length items told ⌝ }
 {
     let finishes = dealing::no_finishes();
     Done {
-        replay: Replay { phase, length },
+        replay: Replay {
+            phase,
+            length,
+            items,
+        },
         told,
         finishes,
     }
@@ -100,13 +112,14 @@ fn clear(cells: &mut [u64])
 
 fn set_cells(replay: Replay, length: u32, cells: &mut [u64]) -> Done
     requires { ⌜ Roomy replay (now cells) ⌝ }
-    ensures { λ r. ⌜ Does (cellsTask (stateOf replay (now (cells .entry))) length) (now (cells .entry)) (now (cells .exit)) r ⌝ }
+    ensures { λ r. ⌜ Leaves replay (λ (s : State). cellsTask s length) (now (cells .entry)) (now (cells .exit)) r ⌝ }
 {
     let n = length as usize;
     if n < Phase::FEWEST_CELLS {
         return tell(
             replay.phase,
             replay.length,
+            replay.items,
             Told::Replied(Reply::Refused(Refusal::Size)),
         );
     }
@@ -114,50 +127,91 @@ fn set_cells(replay: Replay, length: u32, cells: &mut [u64]) -> Done
         return tell(
             replay.phase,
             replay.length,
+            replay.items,
             Told::Replied(Reply::Refused(Refusal::Size)),
         );
     }
     clear(&mut cells[..n]);
-    tell(replay.phase, n, Told::Replied(Reply::Accepted))
+    tell(
+        replay.phase,
+        n,
+        replay.items,
+        Told::Replied(Reply::Accepted),
+    )
 }
 
-fn open_phase(replay: Replay, kind: u32, count: u32, cells: &[u64]) -> Done
-    requires { ⌜ Roomy replay (now cells) ⌝ }
-    ensures { λ r. ⌜ r ≡ doneOf (calls (take (replay .length) (now (cells .entry))) (openCall gateway kind count (take (replay .length) (now (cells .entry))))) ⌝ }
+// The list of orders lent is that of the items.
+fn open_phase(replay: Replay, kind: u32, crew: u32, cells: &[u64], items: &[u32]) -> Done
+    requires { ⌜ Roomy replay (now cells) × Kept (replay .items) (now items) ⌝ }
+    ensures { λ r. ⌜ r ≡ repliedOf (replay .length) (replay .items)
+        (openCall gateway kind crew (take (replay .length) (now (cells .entry))) (keptOrders mostItems (replay .items) (now (items .entry)))) ⌝ }
 {
     let length = replay.length;
-    let replied = Phase::open(kind as u64, count as u64, &cells[..length]);
+    let count = replay.items;
+    let prices = fitting::MOST_ITEMS;
+    let prices_end = prices + count;
+    let workers = 2 * fitting::MOST_ITEMS;
+    let workers_end = workers + count;
+    let replied = Phase::open_parallel(
+        kind as u64,
+        crew as u64,
+        &cells[..length],
+        &items[..count],
+        &items[prices..prices_end],
+        &items[workers..workers_end],
+    );
     let phase = replied.phase;
     let reply = replied.reply;
-    tell(phase, length, Told::Replied(reply))
+    tell(phase, length, count, Told::Replied(reply))
 }
 
-fn give_order(replay: Replay, worker: u32, key: u32, price: u32) -> Done
-    ensures { λ r. ⌜ r ≡ toldOf (orderCall gateway (replay .phase) worker key price .phase) (replay .length)
-        (Told.Replied (orderCall gateway (replay .phase) worker key price .reply)) ⌝ }
+// Stores one item more: its key, its price and its worker behind those of the others.
+fn add_item(replay: Replay, worker: u32, key: u32, price: u32, items: &mut [u32]) -> Done
+    requires { ⌜ Kept (replay .items) (now items) × (replay .items < mostItems) ⌝ }
+    ensures { λ r. ⌜ Adds replay worker key price (now (items .entry)) (now (items .exit)) r ⌝ }
+{
+    let count = replay.items;
+    items[count] = key;
+    items[fitting::MOST_ITEMS + count] = price;
+    items[2 * fitting::MOST_ITEMS + count] = worker;
+    tell(
+        replay.phase,
+        replay.length,
+        count + 1,
+        Told::Replied(Reply::Accepted),
+    )
+}
+
+// An insert phase reads the item at place `first`, the others worker `first` and a key.
+fn give_order(replay: Replay, first: u32, key: u32, items: &[u32]) -> Done
+    requires { ⌜ Kept (replay .items) (now items) ⌝ }
+    ensures { λ r. ⌜ r ≡ repliedOf (replay .length) (replay .items)
+        (orderCall gateway (replay .phase) (keptOrders mostItems (replay .items) (now (items .entry))) first first key) ⌝ }
 {
     let phase = replay.phase;
-    let replied = calls::order(phase, worker as usize, key, price);
+    let count = replay.items;
+    let found = dispatching::item_at(items, count, first as usize);
+    let replied = calls::order_found(phase, found, first as usize, key);
     let next = replied.phase;
     let reply = replied.reply;
-    tell(next, replay.length, Told::Replied(reply))
+    tell(next, replay.length, count, Told::Replied(reply))
 }
 
 fn take_turn(replay: Replay, worker: u32, cells: &mut [u64]) -> Done
     requires { ⌜ Roomy replay (now cells) ⌝ }
-    ensures { λ r. ⌜ Does (turnTask (stateOf replay (now (cells .entry))) worker) (now (cells .entry)) (now (cells .exit)) r ⌝ }
+    ensures { λ r. ⌜ Leaves replay (λ (s : State). turnTask s worker) (now (cells .entry)) (now (cells .exit)) r ⌝ }
 {
     let length = replay.length;
     let phase = replay.phase;
     let turned = calls::turn(phase, &mut cells[..length], worker as usize);
     let next = turned.phase;
     let reply = turned.reply;
-    tell(next, length, Told::Turned(reply))
+    tell(next, length, replay.items, Told::Turned(reply))
 }
 
 fn run_out(replay: Replay, cells: &mut [u64]) -> Done
-    requires { ⌜ Roomy replay (now cells) × (Reached gateway (replay .phase) (take (replay .length) (now cells)) × (replay .phase .shut ≡ false)) ⌝ }
-    ensures { λ r. ⌜ Does (runTask (stateOf replay (now (cells .entry)))) (now (cells .entry)) (now (cells .exit)) r ⌝ }
+    requires { ⌜ Roomy replay (now cells) × (Led gateway (replay .phase) (take (replay .length) (now cells)) × (replay .phase .shut ≡ false)) ⌝ }
+    ensures { λ r. ⌜ Leaves replay runTask (now (cells .entry)) (now (cells .exit)) r ⌝ }
 {
     let length = replay.length;
     let phase = replay.phase;
@@ -168,31 +222,55 @@ fn run_out(replay: Replay, cells: &mut [u64]) -> Done
         replay: Replay {
             phase: next,
             length,
+            items: replay.items,
         },
         told: Told::Ran,
         finishes,
     }
 }
 
+// How many items are left after a close with this answer: none, if it shut an insert phase.
+fn items_after(kind: u32, reply: Reply, items: usize) -> usize
+    ensures { λ r. ⌜ r ≡ countAfter kind reply items ⌝ }
+{
+    match reply {
+        Reply::Accepted => {
+            if kind == 1 {
+                return 0;
+            }
+            items
+        }
+        Reply::Refused(_) => items,
+    }
+}
+
 fn close_phase(replay: Replay) -> Done
-    ensures { λ r. ⌜ r ≡ toldOf (closeCall gateway (replay .phase) .phase) (replay .length) (Told.Replied (closeCall gateway (replay .phase) .reply)) ⌝ }
+    ensures { λ r. ⌜ r ≡ repliedOf (replay .length) (countAfter (replay .phase .kind) (closeCall gateway (replay .phase) .reply) (replay .items))
+        (closeCall gateway (replay .phase)) ⌝ }
 {
     let phase = replay.phase;
     let replied = calls::close(phase);
     let next = replied.phase;
     let reply = replied.reply;
-    tell(next, replay.length, Told::Replied(reply))
+    let items = items_after(phase.kind, reply, replay.items);
+    tell(next, replay.length, items, Told::Replied(reply))
 }
 
 fn list_table(replay: Replay, cells: &[u64]) -> Done
     requires { ⌜ Roomy replay (now cells) ⌝ }
-    ensures { λ r. ⌜ r ≡ doneOf (listTask (stateOf replay (now (cells .entry)))) ⌝ }
+    ensures { λ r. ⌜ r ≡ toldOf (replay .phase) (replay .length) (replay .items)
+        (listTold (listCall gateway (take (replay .length) (now (cells .entry))) (take (replay .length) (now (cells .entry))))) ⌝ }
 {
     let length = replay.length;
     let counted = rest::count(&cells[..length]);
     match counted {
-        Counted::Keys(count) => tell(replay.phase, length, Told::Listed(count)),
-        Counted::Refused(why) => tell(replay.phase, length, Told::Replied(Reply::Refused(why))),
+        Counted::Keys(count) => tell(replay.phase, length, replay.items, Told::Listed(count)),
+        Counted::Refused(why) => tell(
+            replay.phase,
+            length,
+            replay.items,
+            Told::Replied(Reply::Refused(why)),
+        ),
     }
 }
 
@@ -202,14 +280,17 @@ fn carry_out(
     command: Command,
     values: [u32; Line::MOST_NUMBERS],
     cells: &mut [u64],
+    items: &mut [u32],
 ) -> Done
-    requires { ⌜ Roomy replay (now cells) × RunFinds (stateOf replay (now cells)) (Task.Perform command) ⌝ }
-    ensures { λ r. ⌜ Does (commanded (stateOf replay (now (cells .entry))) command values) (now (cells .entry)) (now (cells .exit)) r ⌝ }
+    requires { ⌜ Finds replay (now cells) (now items) (Task.Perform command) ⌝ }
+    ensures { λ r. ⌜ Does (commanded (stateOf replay (now (cells .entry)) (now (items .entry))) command values)
+        (now (cells .entry)) (now (cells .exit)) (now (items .exit)) r ⌝ }
 {
     match command {
         Command::Cells => set_cells(replay, values[0], cells),
-        Command::Open => open_phase(replay, values[0], values[1], cells),
-        Command::Order => give_order(replay, values[0], values[1], values[2]),
+        Command::Open => open_phase(replay, values[0], values[1], cells, items),
+        Command::Item => add_item(replay, values[0], values[1], values[2], items),
+        Command::Order => give_order(replay, values[0], values[1], items),
         Command::Turn => take_turn(replay, values[0], cells),
         Command::Run => run_out(replay, cells),
         Command::Close => close_phase(replay),
@@ -217,40 +298,55 @@ fn carry_out(
         Command::Unknown => tell(
             replay.phase,
             replay.length,
+            replay.items,
             Told::Replied(Reply::Refused(Refusal::Shut)),
         ),
     }
 }
 
-fn perform(replay: Replay, task: Task, values: [u32; Line::MOST_NUMBERS], cells: &mut [u64]) -> Done
-    requires { ⌜ Roomy replay (now cells) × RunFinds (stateOf replay (now cells)) task ⌝ }
-    ensures { λ r. ⌜ Does (performed (stateOf replay (now (cells .entry))) task values) (now (cells .entry)) (now (cells .exit)) r ⌝ }
+fn perform(
+    replay: Replay,
+    task: Task,
+    values: [u32; Line::MOST_NUMBERS],
+    cells: &mut [u64],
+    items: &mut [u32],
+) -> Done
+    requires { ⌜ Finds replay (now cells) (now items) task ⌝ }
+    ensures { λ r. ⌜ Does (performed (stateOf replay (now (cells .entry)) (now (items .entry))) task values)
+        (now (cells .entry)) (now (cells .exit)) (now (items .exit)) r ⌝ }
 {
     match task {
-        Task::Perform(command) => carry_out(replay, command, values, cells),
+        Task::Perform(command) => carry_out(replay, command, values, cells, items),
         Task::Refuse => tell(
             replay.phase,
             replay.length,
+            replay.items,
             Told::Replied(Reply::Refused(Refusal::Shut)),
         ),
     }
 }
 
-// Answers the sheet's line `number`: moves the replay and the cells on, and prints from `at` on.
+// Answers the sheet's line `number`: moves the replay, the cells and the items on, and prints from `at` on.
 pub fn answer(
     replay: Replay,
     number: u64,
     line: Line,
     cells: &mut [u64],
+    items: &mut [u32],
     out: &mut [u8],
     at: usize,
 ) -> Answered
-    requires { ⌜ Ready replay (now cells) × (at + longestAnswer ≤ length (now out)) ⌝ }
-    ensures { λ r. ⌜ Answers (stateOf replay (now (cells .entry))) number line (now (cells .entry)) (now (out .entry)) at (now (cells .exit)) (now (out .exit)) r ⌝ }
+    requires { ⌜ Ready replay (now cells) (now items) × (at + longestAnswer ≤ length (now out)) ⌝ }
+    ensures { λ r. ⌜ Answers (stateOf replay (now (cells .entry)) (now (items .entry))) number line (now (cells .entry)) (now (out .entry)) at
+        (now (cells .exit)) (now (items .exit)) (now (out .exit)) r ⌝ }
 {
     let from = writing::put_number(out, at, number);
-    let Reading::Todo(task) = dispatching::reading_in(replay.phase.kind, replay.phase.shut, line)
-    else {
+    let Reading::Todo(task) = dispatching::reading_in(
+        replay.phase.kind,
+        replay.items,
+        replay.phase.shut,
+        line,
+    ) else {
         let end = writing::put_bytes(out, from, b"\tbad\n");
         return Answered {
             replay,
@@ -260,7 +356,7 @@ pub fn answer(
     };
     let numbers = line.numbers;
     let values = numbers.values;
-    let done = perform(replay, task, values, cells);
+    let done = perform(replay, task, values, cells, items);
     let next = done.replay;
     let told = done.told;
     let finishes = done.finishes;
@@ -286,7 +382,6 @@ pub fn answer(
 pub fn answer_order(
     kind: u32,
     size: u32,
-    left: u32,
     worker: Worker,
     key: u32,
     price: u32,
@@ -295,17 +390,16 @@ pub fn answer_order(
     at: usize,
 ) -> Ordered
     requires { ⌜ (0 < size) × (at + longestAnswer ≤ length (now out)) ⌝ }
-    ensures { λ r. ⌜ OrderAnswers kind size left worker key price number (now (out .entry)) at (now (out .exit)) r ⌝ }
+    ensures { λ r. ⌜ OrderAnswers kind size worker key price number (now (out .entry)) at (now (out .exit)) r ⌝ }
 {
     let from = writing::put_number(out, at, number);
-    let given = calls::one_order(kind, size, left, worker, key, price);
+    let given = calls::one_order(kind, size, worker, key, price);
     let next = given.worker;
     let reply = given.reply;
     let behind = printing::put_reply(out, from, reply);
     let end = writing::put_bytes(out, behind, b"\n");
     Ordered {
         worker: next,
-        left: given.left,
         at: end,
     }
 }
@@ -321,7 +415,8 @@ pub fn answer_turn(
     out: &mut [u8],
     at: usize,
 ) -> Stepped
-    requires { ⌜ (activityOk kind size label (worker .activity) ≡ true) × ((size ≡ places) × ((places ≤ length (now cells)) × (at + longestAnswer ≤ length (now out)))) ⌝ }
+    requires { ⌜ (activityOk kind size label (worker .activity) ≡ true)
+        × ((size ≡ places) × ((places ≤ length (now cells)) × (at + longestAnswer ≤ length (now out)))) ⌝ }
     ensures { λ r. ⌜ TurnAnswers kind size worker number places (now (cells .entry)) (now (out .entry)) at (now (cells .exit)) (now (out .exit)) r ⌝ }
 {
     let from = writing::put_number(out, at, number);

@@ -5,6 +5,7 @@ use singly::run_singly;
 use state::Phase;
 use state::Replied;
 use state::Reply;
+ghost use Rattle.orders.specs.Orders.{ordersOf};
 ghost use Rattle.state.specs.Model.{gateway};
 ghost use Rattle.numbered.specs.Batch.{Ran, Promised};
 ghost use Rattle.numbered.specs.Lists.{callsLent, RunsFrom};
@@ -14,45 +15,100 @@ ghost use Rattle.numbered.specs.Lists.{callsLent, RunsFrom};
 pub fn run_from(
     phase: Phase,
     cells: &mut [u64],
+    order_keys: &[u32],
+    order_prices: &[u32],
+    order_workers: &[u32],
     ops: &[u32],
+    lines: &[u32],
     workers: &[u32],
     keys: &[u32],
-    prices: &[u32],
     answers: &mut [u64],
 ) -> Phase
-    ensures { λ r. ⌜ RunsFrom gateway phase (now (cells .entry)) (callsLent (now (ops .entry)) (now (workers .entry)) (now (keys .entry)) (now (prices .entry)) (now (answers .entry)))
+    ensures { λ r. ⌜ RunsFrom gateway (ordersOf (now («order_keys» .entry)) (now («order_prices» .entry)) (now («order_workers» .entry))) phase (now (cells .entry))
+        (callsLent (now (ops .entry)) (now (lines .entry)) (now (workers .entry)) (now (keys .entry)) (now (answers .entry)))
         (now (answers .entry)) r (now (cells .exit)) (now (answers .exit)) ⌝ }
 {
     if phase.length as usize != cells.len() {
-        return run_singly(phase, cells, ops, workers, keys, prices, answers);
+        return run_singly(
+            phase,
+            cells,
+            order_keys,
+            order_prices,
+            order_workers,
+            ops,
+            lines,
+            workers,
+            keys,
+            answers,
+        );
     }
     if !is_well_formed(phase) {
-        return run_singly(phase, cells, ops, workers, keys, prices, answers);
+        return run_singly(
+            phase,
+            cells,
+            order_keys,
+            order_prices,
+            order_workers,
+            ops,
+            lines,
+            workers,
+            keys,
+            answers,
+        );
     }
-    run_tested(phase, cells, ops, workers, keys, prices, answers)
+    run_tested(
+        phase,
+        cells,
+        order_keys,
+        order_prices,
+        order_workers,
+        ops,
+        lines,
+        workers,
+        keys,
+        answers,
+    )
 }
 
-// Opens a phase and, if the opening is accepted, applies calls as above.
+// Opens a phase with a list of orders and, if the opening is accepted, applies calls as above, each lent that list.
 pub fn run_calls(
     kind: u64,
     count: u64,
     cells: &mut [u64],
+    order_keys: &[u32],
+    order_prices: &[u32],
+    order_workers: &[u32],
     ops: &[u32],
+    lines: &[u32],
     workers: &[u32],
     keys: &[u32],
-    prices: &[u32],
     answers: &mut [u64],
 ) -> Replied
-    ensures is_run { λ r. ⌜ Ran gateway kind count (now (cells .entry)) (now (ops .entry)) (now (workers .entry)) (now (keys .entry)) (now (prices .entry)) (now (answers .entry))
+    ensures is_run { λ r. ⌜ Ran gateway kind count (now (cells .entry))
+        (ordersOf (now («order_keys» .entry)) (now («order_prices» .entry)) (now («order_workers» .entry)))
+        (now (ops .entry)) (now (lines .entry)) (now (workers .entry)) (now (keys .entry)) (now (answers .entry))
         r (now (cells .exit)) (now (answers .exit)) ⌝ }
-    ensures promise { λ r. ⌜ Promised gateway kind count (now (cells .entry)) (now (ops .entry)) (now (workers .entry)) (now (keys .entry)) (now (prices .entry)) (now (answers .entry)) ⌝ }
+    ensures promise { λ r. ⌜ Promised gateway kind count (now (cells .entry))
+        (ordersOf (now («order_keys» .entry)) (now («order_prices» .entry)) (now («order_workers» .entry)))
+        (now (ops .entry)) (now (lines .entry)) (now (workers .entry)) (now (keys .entry)) (now (answers .entry)) ⌝ }
 {
-    let opened = Phase::open(kind, count, cells);
+    let opened = Phase::open_parallel(kind, count, cells, order_keys, order_prices, order_workers);
     let phase = opened.phase;
     let reply = opened.reply;
     match reply {
         Reply::Accepted => Replied {
-            phase: run_from(phase, cells, ops, workers, keys, prices, answers),
+            phase: run_from(
+                phase,
+                cells,
+                order_keys,
+                order_prices,
+                order_workers,
+                ops,
+                lines,
+                workers,
+                keys,
+                answers,
+            ),
             reply: Reply::Accepted,
         },
         Reply::Refused(why) => Replied {
@@ -67,22 +123,40 @@ pub fn run_calls_singly(
     kind: u64,
     count: u64,
     cells: &mut [u64],
+    order_keys: &[u32],
+    order_prices: &[u32],
+    order_workers: &[u32],
     ops: &[u32],
+    lines: &[u32],
     workers: &[u32],
     keys: &[u32],
-    prices: &[u32],
     answers: &mut [u64],
 ) -> Replied
-    ensures is_run { λ r. ⌜ Ran gateway kind count (now (cells .entry)) (now (ops .entry)) (now (workers .entry)) (now (keys .entry)) (now (prices .entry)) (now (answers .entry))
+    ensures is_run { λ r. ⌜ Ran gateway kind count (now (cells .entry))
+        (ordersOf (now («order_keys» .entry)) (now («order_prices» .entry)) (now («order_workers» .entry)))
+        (now (ops .entry)) (now (lines .entry)) (now (workers .entry)) (now (keys .entry)) (now (answers .entry))
         r (now (cells .exit)) (now (answers .exit)) ⌝ }
-    ensures promise { λ r. ⌜ Promised gateway kind count (now (cells .entry)) (now (ops .entry)) (now (workers .entry)) (now (keys .entry)) (now (prices .entry)) (now (answers .entry)) ⌝ }
+    ensures promise { λ r. ⌜ Promised gateway kind count (now (cells .entry))
+        (ordersOf (now («order_keys» .entry)) (now («order_prices» .entry)) (now («order_workers» .entry)))
+        (now (ops .entry)) (now (lines .entry)) (now (workers .entry)) (now (keys .entry)) (now (answers .entry)) ⌝ }
 {
-    let opened = Phase::open(kind, count, cells);
+    let opened = Phase::open_parallel(kind, count, cells, order_keys, order_prices, order_workers);
     let phase = opened.phase;
     let reply = opened.reply;
     match reply {
         Reply::Accepted => Replied {
-            phase: run_singly(phase, cells, ops, workers, keys, prices, answers),
+            phase: run_singly(
+                phase,
+                cells,
+                order_keys,
+                order_prices,
+                order_workers,
+                ops,
+                lines,
+                workers,
+                keys,
+                answers,
+            ),
             reply: Reply::Accepted,
         },
         Reply::Refused(why) => Replied {

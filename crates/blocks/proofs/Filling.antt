@@ -32,19 +32,22 @@ abbrev pub rest : List ℕ → ℕ → List ℕ
 rest block from = take (length block - from) (drop from block)
 
 pub rest-is : (block : List ℕ) (from : ℕ) → rest block from ≡ drop from block
-rest-is block from = let l : length (drop from block) ≡ length block - from = length-drop from block in take-all (length block - from) (drop from block) (omega arith)
+rest-is block from =
+    let l : length (drop from block) ≡ length block - from = length-drop from block in
+    take-all (length block - from) (drop from block) (omega arith)
 
 -- ---- behind the first bytes of a block, up to `from`
-pub record Behind (k₀ : Kept) (block line cells : List ℕ) (c : Carried) (from : ℕ) : Type 0 where
-  pub kept : keptOf c line cells ≡ fed k₀ (take from block)
-  pub held : Held c cells
+pub record Behind (k₀ : Kept) (block line cells items : List ℕ) (c : Carried) (from : ℕ) : Type 0 where
+  pub kept : keptOf c line cells items ≡ fed k₀ (take from block)
+  pub held : Held c cells items
   pub goes : c .ended ≡ false
   pub line-long : keptBytes ≤ length line
   pub few : c .number ≤ k₀ .number + from
   pub countable : k₀ .number + length block < 2 ^ 64
   pub within : from ≤ length block
 
-pub behind-none : {c : Carried} {block line cells : List ℕ} → Fit c line cells (length block) → Behind (keptOf c line cells) block line cells c 0
+pub behind-none : {c : Carried} {block line cells items : List ℕ} → Fit c line cells items (length block)
+    → Behind (keptOf c line cells items) block line cells items c 0
 behind-none fit =
     record {
       kept = unfold fed in refl;
@@ -56,9 +59,9 @@ behind-none fit =
       within = omega arith;
     }
 
-module _ {k₀ : Kept} {block line cells : List ℕ} {c : Carried} {from : ℕ} (b : Behind k₀ block line cells c from) where
+module _ {k₀ : Kept} {block line cells items : List ℕ} {c : Carried} {from : ℕ} (b : Behind k₀ block line cells items c from) where
   abbrev k : Kept
-  k = keptOf c line cells
+  k = keptOf c line cells items
 
   pub fed-on : (n : ℕ) → fed k (take n (drop from block)) ≡ fed k₀ (take (from + n) block)
   fed-on n =
@@ -72,7 +75,7 @@ module _ {k₀ : Kept} {block line cells : List ℕ} {c : Carried} {from : ℕ} 
       ∙ sym (printed-append k₀ (take from block) (take n (drop from block)))
       ∙ ap (printed k₀) (sym (take-add from n block))
 
-  pub fits : (n : ℕ) → from + n ≤ length block → Fit c line cells n
+  pub fits : (n : ℕ) → from + n ≤ length block → Fit c line cells items n
   fits n l = record { held = b .held; goes = b .goes; line-long = b .line-long; countable = omega (arith, b .few, b .countable) }
 
   pub rest-long : length (rest block from) ≡ length block - from
@@ -83,45 +86,47 @@ module _ {k₀ : Kept} {block line cells : List ℕ} {c : Carried} {from : ℕ} 
   end-within is = omega (arith, byte-le 10 (rest block from), rest-long, b .within)
 
 -- ---- the lent lists keep their lengths
-pub record Same (line₀ cells₀ out₀ line cells out : List ℕ) : Type 0 where
+pub record Same (line₀ cells₀ items₀ out₀ line cells items out : List ℕ) : Type 0 where
   pub same-line : length line ≡ length line₀
   pub same-cells : length cells ≡ length cells₀
+  pub same-items : length items ≡ length items₀
   pub same-out : length out ≡ length out₀
 
-pub same-none : {line cells out : List ℕ} → Same line cells out line cells out
-same-none = record { same-line = refl; same-cells = refl; same-out = refl }
+pub same-none : {line cells items out : List ℕ} → Same line cells items out line cells items out
+same-none = record { same-line = refl; same-cells = refl; same-items = refl; same-out = refl }
 
-pub same-on : {line₀ cells₀ out₀ line cells out line′ cells′ out′ : List ℕ} → Same line₀ cells₀ out₀ line cells out
-    → length line′ ≡ length line → length cells′ ≡ length cells → length out′ ≡ length out → Same line₀ cells₀ out₀ line′ cells′ out′
-same-on s l c o = record { same-line = l ∙ s .same-line; same-cells = c ∙ s .same-cells; same-out = o ∙ s .same-out }
+pub same-on : {line₀ cells₀ items₀ out₀ line cells items out line′ cells′ items′ out′ : List ℕ} → Same line₀ cells₀ items₀ out₀ line cells items out
+    → length line′ ≡ length line → length cells′ ≡ length cells → length items′ ≡ length items → length out′ ≡ length out
+    → Same line₀ cells₀ items₀ out₀ line′ cells′ items′ out′
+same-on s l c i o = record { same-line = l ∙ s .same-line; same-cells = c ∙ s .same-cells; same-items = i ∙ s .same-items; same-out = o ∙ s .same-out }
 
 -- ---- lines in a buffer
 -- what the first bytes print stands in the buffer, and nothing does before the first byte
-pub record Filling (k₀ : Kept) (block line cells out : List ℕ) (c : Carried) (from at : ℕ) : Type 0 where
-  pub behind : Behind k₀ block line cells c from
+pub record Filling (k₀ : Kept) (block line cells items out : List ℕ) (c : Carried) (from at : ℕ) : Type 0 where
+  pub behind : Behind k₀ block line cells items c from
   pub output : take at out ≡ printed k₀ (take from block)
   pub room : at ≤ length out
   pub buffer : longestAnswer ≤ length out
   pub begun : from ≡ 0 → at ≡ 0
 
-pub filling-none : {c : Carried} {block line cells out : List ℕ} → Fit c line cells (length block) → longestAnswer ≤ length out
-    → Filling (keptOf c line cells) block line cells out c 0 0
+pub filling-none : {c : Carried} {block line cells items out : List ℕ} → Fit c line cells items (length block) → longestAnswer ≤ length out
+    → Filling (keptOf c line cells items) block line cells items out c 0 0
 filling-none fit room = record { behind = behind-none fit; output = unfold printed in refl; room = omega arith; buffer = room; begun = λ _. refl }
 
-module _ {k₀ : Kept} {block line cells out : List ℕ} {c : Carried} {from at : ℕ} (h : Filling k₀ block line cells out c from at) where
+module _ {k₀ : Kept} {block line cells items out : List ℕ} {c : Carried} {from at : ℕ} (h : Filling k₀ block line cells items out c from at) where
   abbrev kept-now : Kept
-  kept-now = keptOf c line cells
+  kept-now = keptOf c line cells items
 
   -- the buffer holds what was printed so far
-  so-far : 0 < from → Fills k₀ block line cells out (record { carried = c; next = from; at = at })
+  so-far : 0 < from → Fills k₀ block line cells items out (record { carried = c; next = from; at = at })
   so-far on =
       let b = h .behind in
       record { kept = b .kept; output = h .output; held = b .held; few = b .few; on = on; within = b .within; room = h .room }
 
-  pub filled-up : length block ≤ from → 0 < length block → Fills k₀ block line cells out (record { carried = c; next = from; at = at })
+  pub filled-up : length block ≤ from → 0 < length block → Fills k₀ block line cells items out (record { carried = c; next = from; at = at })
   filled-up l some = so-far (omega arith)
 
-  pub no-room : length out - at < longestAnswer → Fills k₀ block line cells out (record { carried = c; next = from; at = at })
+  pub no-room : length out - at < longestAnswer → Fills k₀ block line cells items out (record { carried = c; next = from; at = at })
   no-room l = by-test (eqb from 0)
       (λ t. absurd (omega (arith, h .begun (eqb-true from 0 t), h .buffer)))
       (λ t. let n : from ≡ 0 → ⊥ = eqb-false from 0 t in so-far (omega arith))
@@ -132,7 +137,8 @@ module _ {k₀ : Kept} {block line cells out : List ℕ} {c : Carried} {from at 
   module _ (inside : from < length block) {e : ℕ} (is : e ≡ byteAt 10 (rest block from)) where
     -- no newline is left in the block
     pub filled-part : length block ≤ from + e → {line′ : List ℕ} {n : ℕ} → Gathers (take (c .len) line ++ rest block from) line′ n
-        → Fills k₀ block line′ cells out (record { carried = record { replay = c .replay; number = c .number; len = n; ended = false }; next = from + e; at = at })
+        → Fills k₀ block line′ cells items out
+        (record { carried = record { replay = c .replay; number = c .number; len = n; ended = false }; next = from + e; at = at })
     filled-part l {line′} {n} g =
         let b = h .behind in
         let all : e ≡ length block - from = omega (arith, end-within b is) in
@@ -153,13 +159,16 @@ module _ {k₀ : Kept} {block line cells out : List ℕ} {c : Carried} {from at 
         }
       where
         same-line : {x y : Bool} {p q : List ℕ} → x ≡ y → p ≡ q
-            → _≡_ {A = Kept} (record { state = kept-now .state; number = c .number; line = p; ended = x }) (record { state = kept-now .state; number = c .number; line = q; ended = y })
+            → _≡_ {A = Kept} (record { state = kept-now .state; number = c .number; line = p; ended = x })
+            (record { state = kept-now .state; number = c .number; line = q; ended = y })
         same-line s t = rw (s, t)
 
     -- a line that ends in the block is answered
-    module _ (found : from + e < length block) (room : at + longestAnswer ≤ length out) {l : Line} (read : l ≡ readingOf (take (c .len) line ++ take (from + e - from) (drop from block)))
-        {cells′ out′ : List ℕ} {d : Answered} (a : Answers (stateOf (c .replay) cells) (c .number + 1) l cells out at cells′ out′ d) (line′ : List ℕ) where
-      abbrev b : Behind k₀ block line cells c from
+    module _ (found : from + e < length block) (room : at + longestAnswer ≤ length out) {l : Line}
+        (read : l ≡ readingOf (take (c .len) line ++ take (from + e - from) (drop from block)))
+        {cells′ items′ out′ : List ℕ} {d : Answered}
+        (a : Answers (stateOf (c .replay) cells items) (c .number + 1) l cells out at cells′ items′ out′ d) (line′ : List ℕ) where
+      abbrev b : Behind k₀ block line cells items c from
       b = h .behind
 
       place : e ≡ byteAt 10 (drop from block)
@@ -169,7 +178,9 @@ module _ {k₀ : Kept} {block line cells out : List ℕ} {c : Carried} {from at 
       text = take (c .len) line ++ take (byteAt 10 (drop from block)) (drop from block)
 
       said : l ≡ readingOf text
-      said = read ∙ ap (λ x. readingOf (take (c .len) line ++ take x (drop from block))) (let z : from + e - from ≡ byteAt 10 (drop from block) = omega (arith, place) in z)
+      said =
+          read ∙ ap (λ x. readingOf (take (c .len) line ++ take x (drop from block)))
+          (let z : from + e - from ≡ byteAt 10 (drop from block) = omega (arith, place) in z)
 
       found-in : byteAt 10 (drop from block) < length (drop from block)
       found-in = omega (arith, place, length-drop from block)
@@ -177,10 +188,10 @@ module _ {k₀ : Kept} {block line cells out : List ℕ} {c : Carried} {from at 
       abbrev full : Kept
       full = withLine kept-now (take keptBytes text)
 
-      answer : answerOf (stateOf (c .replay) cells) l ≡ answerTo full
-      answer = ap (answerOf (stateOf (c .replay) cells)) said ∙ sym (answer-front full text refl)
+      answer : answerOf (stateOf (c .replay) cells items) l ≡ answerTo full
+      answer = ap (answerOf (stateOf (c .replay) cells items)) said ∙ sym (answer-front full text refl)
 
-      behind-line : keptOf (record { replay = d .replay; number = c .number + 1; len = 0; ended = d .ended }) line′ cells′ ≡ behindLine full
+      behind-line : keptOf (record { replay = d .replay; number = c .number + 1; len = 0; ended = d .ended }) line′ cells′ items′ ≡ behindLine full
       behind-line = same (state-behind a ∙ ap (λ (x : Answer). x .state) answer) (add-one (c .number)) (ended-behind a ∙ ap (λ (x : Answer). x .ended) answer)
         where
           same : {s t : State} {m n : ℕ} {x y : Bool} → s ≡ t → m ≡ n → x ≡ y
@@ -190,7 +201,8 @@ module _ {k₀ : Kept} {block line cells out : List ℕ} {c : Carried} {from at 
       next : from + suc (byteAt 10 (drop from block)) ≡ from + e + 1
       next = omega (arith, place)
 
-      kept-next : keptOf (record { replay = d .replay; number = c .number + 1; len = 0; ended = d .ended }) line′ cells′ ≡ fed k₀ (take (from + e + 1) block)
+      kept-next : keptOf (record { replay = d .replay; number = c .number + 1; len = 0; ended = d .ended }) line′ cells′ items′
+          ≡ fed k₀ (take (from + e + 1) block)
       kept-next = behind-line ∙ sym (line-fed (drop from block) kept-now (b .goes) few-gathered found-in) ∙ fed-on b _ ∙ ap (λ x. fed k₀ (take x block)) next
 
       output-next : take (d .at) out′ ≡ printed k₀ (take (from + e + 1) block)
@@ -201,11 +213,12 @@ module _ {k₀ : Kept} {block line cells out : List ℕ} {c : Carried} {from at 
           ∙ printed-on b _ ∙ ap (λ x. printed k₀ (take x block)) next
 
       pub next-line : length line′ ≡ length line → length out′ ≡ length out → d .ended ≡ false
-          → Filling k₀ block line′ cells′ out′ (record { replay = d .replay; number = c .number + 1; len = 0; ended = false }) (from + e + 1) (d .at)
+          → Filling k₀ block line′ cells′ items′ out′ (record { replay = d .replay; number = c .number + 1; len = 0; ended = false }) (from + e + 1) (d .at)
       next-line ll lo goes =
           record {
             behind = record {
-              kept = ap (λ (x : Bool). keptOf (record { replay = d .replay; number = c .number + 1; len = 0; ended = x }) line′ cells′) (sym goes) ∙ kept-next;
+              kept = ap (λ (x : Bool). keptOf (record { replay = d .replay; number = c .number + 1; len = 0; ended = x }) line′ cells′ items′) (sym goes)
+                  ∙ kept-next;
               held = record { ready = a .ready; gathered = omega arith };
               goes = refl;
               line-long = omega (arith, b .line-long);
@@ -220,10 +233,12 @@ module _ {k₀ : Kept} {block line cells out : List ℕ} {c : Carried} {from at 
           }
 
       pub ended-line : d .ended ≡ true
-          → Fills k₀ block line′ cells′ out′ (record { carried = record { replay = d .replay; number = c .number + 1; len = 0; ended = true }; next = from + e + 1; at = d .at })
+          → Fills k₀ block line′ cells′ items′ out′
+          (record { carried = record { replay = d .replay; number = c .number + 1; len = 0; ended = true }; next = from + e + 1; at = d .at })
       ended-line over =
           record {
-            kept = ap (λ (x : Bool). keptOf (record { replay = d .replay; number = c .number + 1; len = 0; ended = x }) line′ cells′) (sym over) ∙ kept-next;
+            kept = ap (λ (x : Bool). keptOf (record { replay = d .replay; number = c .number + 1; len = 0; ended = x }) line′ cells′ items′) (sym over)
+                ∙ kept-next;
             output = output-next;
             held = record { ready = a .ready; gathered = omega arith };
             few = omega (arith, b .few);

@@ -8,7 +8,7 @@ ghost use Rattle.sheet.specs.Replay.{longestAnswer};
 ghost use Rattle.feed.specs.Feed.{lastOutput};
 ghost use Rattle.blocks.specs.Kept.{keptOf, Begins, Fit, Fills};
 
-// What is kept from block to block, beside the lent cells and the bytes of a line that is not whole yet: how many those are, how many lines
+// What is kept from block to block, beside the lent cells, the items and the bytes of a line that is not whole yet: how many those are, how many lines
 // there were, and whether the replay has ended.
 pub struct Carried {
     pub replay: Replay,
@@ -44,14 +44,17 @@ pub fn fill(
     block: &[u8],
     line: &mut [u8],
     cells: &mut [u64],
+    items: &mut [u32],
     out: &mut [u8],
 ) -> Filled
-    requires { ⌜ Fit carried (now line) (now cells) (length (now block)) × ((0 < length (now block)) × (longestAnswer ≤ length (now out))) ⌝ }
-    ensures { λ r. ⌜ Fills (keptOf carried (now (line .entry)) (now (cells .entry))) (now (block .entry)) (now (line .exit)) (now (cells .exit)) (now (out .exit)) r ⌝ }
+    requires { ⌜ Fit carried (now line) (now cells) (now items) (length (now block)) × ((0 < length (now block)) × (longestAnswer ≤ length (now out))) ⌝ }
+    ensures { λ r. ⌜ Fills (keptOf carried (now (line .entry)) (now (cells .entry)) (now (items .entry))) (now (block .entry))
+        (now (line .exit)) (now (cells .exit)) (now (items .exit)) (now (out .exit)) r ⌝ }
 {
     let start = carried.replay;
     let mut phase = start.phase;
     let mut size = start.length;
+    let mut count = start.items;
     let mut number = carried.number;
     let mut len = carried.len;
     let mut at: usize = 0;
@@ -63,6 +66,7 @@ pub fn fill(
                     replay: Replay {
                         phase,
                         length: size,
+                        items: count,
                     },
                     number,
                     len,
@@ -80,6 +84,7 @@ pub fn fill(
                     replay: Replay {
                         phase,
                         length: size,
+                        items: count,
                     },
                     number,
                     len: n,
@@ -93,14 +98,13 @@ pub fn fill(
         let read = gathering::read_end(&block[from..end], line, len);
         len = 0;
         from = end + 1;
-        let aim = dispatching::aim_of(phase.kind, phase.shut, read, phase.crew);
+        let aim = dispatching::aim_of(phase.kind, phase.shut, read, phase.crew, items, count);
         match aim {
             Aim::Order(worker, key, price) => {
                 let w = worker as usize;
                 let ordered = answering::answer_order(
                     phase.kind,
                     phase.length,
-                    phase.left,
                     phase.workers[w],
                     key,
                     price,
@@ -110,7 +114,6 @@ pub fn fill(
                 );
                 let next = ordered.worker;
                 phase.workers[w] = next;
-                phase.left = ordered.left;
                 at = ordered.at;
             }
             Aim::Turn(worker) => {
@@ -134,10 +137,12 @@ pub fn fill(
                     Replay {
                         phase,
                         length: size,
+                        items: count,
                     },
                     number,
                     read,
                     cells,
+                    items,
                     out,
                     at,
                 );
@@ -157,6 +162,7 @@ pub fn fill(
                 let moved = next.phase;
                 phase = moved;
                 size = next.length;
+                count = next.items;
                 at = answered.at;
             }
         }
@@ -166,6 +172,7 @@ pub fn fill(
             replay: Replay {
                 phase,
                 length: size,
+                items: count,
             },
             number,
             len,
@@ -177,9 +184,16 @@ pub fn fill(
 }
 
 // Answers a last line that no newline ends, if it has a byte. The result is how far the buffer is filled.
-pub fn last_line(carried: Carried, line: &[u8], cells: &mut [u64], out: &mut [u8]) -> usize
-    requires { ⌜ Fit carried (now line) (now cells) 1 × (longestAnswer ≤ length (now out)) ⌝ }
-    ensures { λ r. ⌜ (take r (now (out .exit)) ≡ lastOutput (keptOf carried (now (line .entry)) (now (cells .entry)))) × (r ≤ length (now (out .exit))) ⌝ }
+pub fn last_line(
+    carried: Carried,
+    line: &[u8],
+    cells: &mut [u64],
+    items: &mut [u32],
+    out: &mut [u8],
+) -> usize
+    requires { ⌜ Fit carried (now line) (now cells) (now items) 1 × (longestAnswer ≤ length (now out)) ⌝ }
+    ensures { λ r. ⌜ (take r (now (out .exit)) ≡ lastOutput (keptOf carried (now (line .entry)) (now (cells .entry)) (now (items .entry))))
+        × (r ≤ length (now (out .exit))) ⌝ }
 {
     let len = carried.len;
     if len == 0 {
@@ -187,6 +201,6 @@ pub fn last_line(carried: Carried, line: &[u8], cells: &mut [u64], out: &mut [u8
     }
     let replay = carried.replay;
     let read = parsing::read_line(&line[..len]);
-    let answered = answering::answer(replay, carried.number + 1, read, cells, out, 0);
+    let answered = answering::answer(replay, carried.number + 1, read, cells, items, out, 0);
     answered.at
 }

@@ -6,6 +6,9 @@ use formed::is_idle;
 use formed::is_well_formed;
 use formed::numbers_ok;
 use formed::worker_ok;
+use lent::line_at;
+use orders::Found;
+use orders::Order;
 use prices::HIGHEST;
 use prices::PRICES;
 use probing::find_step;
@@ -22,17 +25,17 @@ use state::Replied;
 use state::Reply;
 use steps::step;
 ghost use mathlib.Core.Path.{_≡_};
-ghost use mathlib.Core.Bool.{true, cond};
-ghost use Prim.Native.Nat.{_-_, _<_};
-ghost use lib.Dec.{eqb};
+ghost use mathlib.Core.Bool.{true};
+ghost use Prim.Native.Nat.{_<_};
 ghost use lib.ListN.{length};
 ghost use Rattle.prices.specs.Contents.{label, priceOk};
 ghost use Rattle.activities.specs.Activities.{activityOk};
 ghost use Rattle.state.specs.Model.{gateway};
 ghost use Rattle.state.specs.Refusals.{firstOf};
-ghost use Rattle.protocol.specs.Bars.{usedUp, mispriced, workerBars};
-ghost use Rattle.protocol.specs.Calls.{entryFor, closeCall, orderCall, turnCall, turnTable};
+ghost use Rattle.protocol.specs.Bars.{mispriced, workerBars};
+ghost use Rattle.protocol.specs.Calls.{entryFor, closeCall, orderFound, orderCall, turnCall, turnTable};
 ghost use Rattle.protocol.specs.Split.{oneOrder, oneTurn, oneTable};
+ghost use Rattle.calls.specs.Asking.{askedFor};
 
 // ---- close
 // The phase as it is, with a refusal.
@@ -66,10 +69,34 @@ pub fn close(mut phase: Phase) -> Replied
 }
 
 // ---- order
-fn is_full(kind: u32, left: u32) -> bool
-    ensures { λ r. ⌜ r ≡ usedUp kind left ⌝ }
+// What an order call asks for: of which worker, for which key at which price, or that the list lacks the line.
+pub struct Asked {
+    pub lacks: bool,
+    pub worker: usize,
+    pub key: u32,
+    pub price: u32,
+}
+
+// An insert phase reads the line that was found, the others the worker and the key handed in.
+pub fn asked_for(kind: u32, found: Found, worker: usize, key: u32) -> Asked
+    ensures { λ r. ⌜ r ≡ askedFor kind found worker key ⌝ }
 {
-    if kind == 1 { left == 0 } else { false }
+    if kind == 1 {
+        let order = found.order;
+        Asked {
+            lacks: !found.there,
+            worker: order.worker as usize,
+            key: order.key,
+            price: order.price,
+        }
+    } else {
+        Asked {
+            lacks: false,
+            worker,
+            key,
+            price: 0,
+        }
+    }
 }
 
 // Whether a price may be kept with a key: from 1 to 9,999,999.
@@ -101,19 +128,9 @@ fn entry_for(kind: u32, key: u32, price: u32) -> u64
     }
 }
 
-// The insert operations left after one more order.
-fn left_after(kind: u32, left: u32) -> u32
-    ensures { λ r. ⌜ r ≡ cond (eqb kind 1) (left - 1) left ⌝ }
-{
-    if kind != 1 {
-        return left;
-    }
-    if left == 0 { 0 } else { left - 1 }
-}
-
 // The answer of an order to a worker with this activity.
-fn one_reply(kind: u32, left: u32, activity: Activity, key: u32, price: u32) -> Reply
-    ensures { λ r. ⌜ r ≡ firstOf (workerBars kind left activity key price) ⌝ }
+fn one_reply(kind: u32, activity: Activity, key: u32, price: u32) -> Reply
+    ensures { λ r. ⌜ r ≡ firstOf (workerBars kind activity key price) ⌝ }
 {
     if !is_idle(activity) {
         return Reply::Refused(Refusal::Busy);
@@ -124,19 +141,16 @@ fn one_reply(kind: u32, left: u32, activity: Activity, key: u32, price: u32) -> 
     if is_mispriced(kind, price) {
         return Reply::Refused(Refusal::WrongPrice);
     }
-    if is_full(kind, left) {
-        return Reply::Refused(Refusal::Full);
-    }
     Reply::Accepted
 }
 
 // An order to one worker by itself. The rest of its phase is not tested. All refusals share one way out, so that the worker is copied once.
-pub fn one_order(kind: u32, length: u32, left: u32, worker: Worker, key: u32, price: u32) -> Given
+pub fn one_order(kind: u32, length: u32, worker: Worker, key: u32, price: u32) -> Given
     requires { ⌜ 0 < length ⌝ }
-    ensures { λ r. ⌜ r ≡ oneOrder gateway kind length left worker key price ⌝ }
+    ensures { λ r. ⌜ r ≡ oneOrder gateway kind length worker key price ⌝ }
 {
     let activity = worker.activity;
-    let reply = one_reply(kind, left, activity, key, price);
+    let reply = one_reply(kind, activity, key, price);
     match reply {
         Reply::Accepted => {
             let cell = geometry::home(length, key);
@@ -145,23 +159,22 @@ pub fn one_order(kind: u32, length: u32, left: u32, worker: Worker, key: u32, pr
                 worker: Worker {
                     activity: Activity::Reading { entry, cell },
                 },
-                left: left_after(kind, left),
                 reply: Reply::Accepted,
             }
         }
         Reply::Refused(why) => Given {
             worker,
-            left,
             reply: Reply::Refused(why),
         },
     }
 }
 
-// An order to one worker of the phase. The workers are tested in its own body: the phase is not copied for it.
-pub fn order(mut phase: Phase, worker: usize, key: u32, price: u32) -> Replied
-    ensures { λ r. ⌜ r ≡ orderCall gateway phase worker key price ⌝ }
+// An order by a line that was found in the list lent, or by a worker and a key handed in. The workers are tested in its own body: the phase is not
+// copied for it.
+pub fn order_found(mut phase: Phase, found: Found, worker: usize, key: u32) -> Replied
+    ensures { λ r. ⌜ r ≡ orderFound gateway phase found worker key ⌝ }
 {
-    if !numbers_ok(phase.kind, phase.length, phase.crew, phase.left) {
+    if !numbers_ok(phase.kind, phase.length, phase.crew) {
         return refused(phase, Refusal::Spoilt);
     }
     let mut i: usize = 0;
@@ -176,22 +189,33 @@ pub fn order(mut phase: Phase, worker: usize, key: u32, price: u32) -> Replied
     if phase.shut {
         return refused(phase, Refusal::Shut);
     }
-    if phase.crew as usize <= worker {
+    let asked = asked_for(phase.kind, found, worker, key);
+    if asked.lacks {
+        return refused(phase, Refusal::NoLine);
+    }
+    let chosen = asked.worker;
+    if phase.crew as usize <= chosen {
         return refused(phase, Refusal::NoWorker);
     }
     let given = one_order(
         phase.kind,
         phase.length,
-        phase.left,
-        phase.workers[worker],
-        key,
-        price,
+        phase.workers[chosen],
+        asked.key,
+        asked.price,
     );
     let next = given.worker;
     let reply = given.reply;
-    phase.workers[worker] = next;
-    phase.left = given.left;
+    phase.workers[chosen] = next;
     Replied { phase, reply }
+}
+
+// The order call: in an insert phase by line `line` of the list, in the others for the worker and the key that are handed in.
+pub fn order(phase: Phase, orders: &[Order], line: usize, worker: usize, key: u32) -> Replied
+    ensures { λ r. ⌜ r ≡ orderCall gateway phase (now (orders .entry)) line worker key ⌝ }
+{
+    let found = line_at(orders, line);
+    order_found(phase, found, worker, key)
 }
 
 // ---- turn
@@ -252,7 +276,7 @@ fn turn_refused(phase: Phase, why: Refusal) -> Turned
 pub fn turn(mut phase: Phase, cells: &mut [u64], worker: usize) -> Turned
     ensures { λ r. ⌜ (r ≡ turnCall gateway phase (now (cells .entry)) worker) × (now (cells .exit) ≡ turnTable gateway phase (now (cells .entry)) worker) ⌝ }
 {
-    if !numbers_ok(phase.kind, phase.length, phase.crew, phase.left) {
+    if !numbers_ok(phase.kind, phase.length, phase.crew) {
         return turn_refused(phase, Refusal::Spoilt);
     }
     let mut i: usize = 0;

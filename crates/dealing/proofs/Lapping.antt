@@ -8,6 +8,7 @@ use native.Mathlib.Omega.{arith}
 use lib.ListN.{length, getD, set}
 use lib.Seq.{set-getD}
 use Rattle.prices.specs.Contents.{label}
+use Rattle.orders.specs.declared.Order.{Order}
 use Rattle.state.specs.Model.{Model, Proper}
 use Rattle.activities.specs.Activities.{idle, activityOk, isIdle}
 use Rattle.activities.specs.declared.Activity.the-variants.{Idle}
@@ -37,7 +38,8 @@ withMoved d w m t =
 
 -- ---- the lap that began at d₀ has come to d, with worker w next
 pub record Lapping (M : Model) (d₀ : Dealing) (count : ℕ) (d : Dealing) (w : ℕ) : Type 0 where
-  pub reached : Reached M (d₀ .dealt .phase) (d₀ .table)
+  pub list : List Order
+  pub reached : Reached M list (d₀ .dealt .phase) (d₀ .table)
   pub running : d₀ .dealt .phase .shut ≡ false
   pub all : count ≡ d₀ .dealt .phase .crew
   pub few : count ≤ M .room
@@ -45,7 +47,7 @@ pub record Lapping (M : Model) (d₀ : Dealing) (count : ℕ) (d : Dealing) (w :
   pub same : d ≡ deal M w d₀
 
 module _ (M : Model) (proper : Proper M) where
-  module _ (k m : ℕ) (t : List ℕ) (d : Dealing) (o : Opened M k m t d) (w : ℕ) where
+  module _ (k m : ℕ) (t : List ℕ) (os : List Order) (d : Dealing) (o : Opened M k m t os d) (w : ℕ) where
     one-dealt : w < d .dealt .phase .crew
         → let p = d .dealt .phase in
         let worker = getD (p .workers) w idle in
@@ -53,7 +55,8 @@ module _ (M : Model) (proper : Proper M) where
     unfolding dealTo
     one-dealt l =
         let p = d .dealt .phase in
-        let (a, b) = turn-by-one M p (d .table) w (formed M proper k m t p (d .table) (o .from)) (o .running) (sized M proper k m t p (d .table) (o .from)) l in
+        let (a, b) = turn-by-one M p (d .table) w (formed M proper k m t os p (d .table) (o .from)) (o .running)
+        (sized M proper k m t os p (d .table) (o .from)) l in
         rw (← a, b)
 
     -- an idle worker's turn changes nothing
@@ -61,37 +64,39 @@ module _ (M : Model) (proper : Proper M) where
     unfolding dealTo
     idle-dealt l free =
         let p = d .dealt .phase in
-        let ok = accepts M proper k m t p (d .table) (o .from) w (o .running) l in
+        let ok = accepts M proper k m t os p (d .table) (o .from) w (o .running) l in
         let a : doing p w ≡ Idle = idle-says (doing p w) .0 free in
         rw (ok, a, set-getD)
 
   module _ (d₀ : Dealing) (count : ℕ) where
-    pub lap-starts : Reached M (d₀ .dealt .phase) (d₀ .table) → d₀ .dealt .phase .shut ≡ false → count ≡ d₀ .dealt .phase .crew → Lapping M d₀ count d₀ 0
+    pub lap-starts : (os : List Order) → Reached M os (d₀ .dealt .phase) (d₀ .table) → d₀ .dealt .phase .shut ≡ false → count ≡ d₀ .dealt .phase .crew
+        → Lapping M d₀ count d₀ 0
     unfolding deal
-    lap-starts h up e = record {
+    lap-starts os h up e = record {
+      list = os;
       reached = h;
       running = up;
       all = e;
-      few = omega (arith, few-workers M proper (h .kind) (h .crew) (h .opened) (d₀ .dealt .phase) (d₀ .table) (h .by));
+      few = omega (arith, few-workers M proper (h .kind) (h .crew) (h .opened) os (d₀ .dealt .phase) (d₀ .table) (h .by));
       within = omega arith;
       same = refl;
     }
 
     module _ (d : Dealing) (w : ℕ) (g : Lapping M d₀ count d w) where
-      abbrev from : From M (g .reached .kind) (g .reached .crew) (g .reached .opened) (d₀ .dealt .phase) (d₀ .table)
+      abbrev from : From M (g .reached .kind) (g .reached .crew) (g .reached .opened) (g .list) (d₀ .dealt .phase) (d₀ .table)
       from = g .reached .by
 
-      here : Opened M (g .reached .kind) (g .reached .crew) (g .reached .opened) d
+      here : Opened M (g .reached .kind) (g .reached .crew) (g .reached .opened) (g .list) d
       here = rw (g .same)
-          (deal-opened M proper (g .reached .kind) (g .reached .crew) (g .reached .opened) w d₀ (record { from = from; running = g .running }))
+          (deal-opened M proper (g .reached .kind) (g .reached .crew) (g .reached .opened) (g .list) w d₀ (record { from = from; running = g .running }))
 
       below : w < count → w < d .dealt .phase .crew
       below l =
           omega (
             arith,
             g .all,
-            crew M proper (g .reached .kind) (g .reached .crew) (g .reached .opened) (d .dealt .phase) (d .table) (here .from),
-            crew M proper (g .reached .kind) (g .reached .crew) (g .reached .opened) (d₀ .dealt .phase) (d₀ .table) from,
+            crew M proper (g .reached .kind) (g .reached .crew) (g .reached .opened) (g .list) (d .dealt .phase) (d .table) (here .from),
+            crew M proper (g .reached .kind) (g .reached .crew) (g .reached .opened) (g .list) (d₀ .dealt .phase) (d₀ .table) from,
           )
 
       lap-on : w < count
@@ -100,12 +105,14 @@ module _ (M : Model) (proper : Proper M) where
           Lapping M d₀ count (withMoved d w (oneTurn M (p .kind) (p .length) (d .table) worker) (oneTable M (p .kind) (p .length) (d .table) worker)) (w + 1)
       lap-on l =
           record {
+            list = g .list;
             reached = g .reached;
             running = g .running;
             all = g .all;
             few = g .few;
             within = omega arith;
-            same = one-dealt (g .reached .kind) (g .reached .crew) (g .reached .opened) d here w (below l) ∙ ap (dealTo M w) (g .same) ∙ unfold deal in (rw add-one);
+            same = one-dealt (g .reached .kind) (g .reached .crew) (g .reached .opened) (g .list) d here w (below l) ∙ ap (dealTo M w) (g .same)
+                ∙ unfold deal in (rw add-one);
           }
 
       -- the same with what the code has found
@@ -154,12 +161,13 @@ module _ (M : Model) (proper : Proper M) where
       pub lap-skips : w < count → isIdle (doing (d .dealt .phase) w) ≡ true → Lapping M d₀ count d (w + 1)
       lap-skips l free =
           record {
+            list = g .list;
             reached = g .reached;
             running = g .running;
             all = g .all;
             few = g .few;
             within = omega arith;
-            same = sym (idle-dealt (g .reached .kind) (g .reached .crew) (g .reached .opened) d here w (below l) free) ∙ ap (dealTo M w) (g .same)
+            same = sym (idle-dealt (g .reached .kind) (g .reached .crew) (g .reached .opened) (g .list) d here w (below l) free) ∙ ap (dealTo M w) (g .same)
                 ∙ unfold deal in (rw add-one);
           }
 
@@ -169,10 +177,10 @@ module _ (M : Model) (proper : Proper M) where
           (activityOk (p .kind) (p .length) label (doing p w) ≡ true) × (p .length ≡ length (d .table))
       lap-good l =
           let p = d .dealt .phase in
-          let good = formed M proper (g .reached .kind) (g .reached .crew) (g .reached .opened) p (d .table) (here .from) in
+          let good = formed M proper (g .reached .kind) (g .reached .crew) (g .reached .opened) (g .list) p (d .table) (here .from) in
           let b = below l in (
             good-worker M p good w (omega arith),
-            sized M proper (g .reached .kind) (g .reached .crew) (g .reached .opened) p (d .table) (here .from),
+            sized M proper (g .reached .kind) (g .reached .crew) (g .reached .opened) (g .list) p (d .table) (here .from),
           )
 
       pub found-good : w < count → d .dealt .phase .kind ≡ 3

@@ -9,19 +9,18 @@ use Rattle.activities.specs.declared.Activity.{Activity}
 use Rattle.rule.specs.declared.Answer.{Answer}
 use Rattle.rule.specs.declared.Answer.the-variants.{Price, No}
 use Rattle.phases.specs.Promise.{Sold}
-use Rattle.state.specs.Model.{Model, Proper}
+use Rattle.state.specs.Model.{Model}
 use Rattle.state.specs.declared.Phase.{Phase}
 use Rattle.state.specs.declared.Reply.{Reply}
 use Rattle.state.specs.declared.Reply.the-variants.{Accepted, Refused}
 use Rattle.protocol.specs.Bars.{doing}
 use Rattle.protocol.specs.Calls.{turned, turnCheck, turnCall}
-use Rattle.protocol.specs.declared.TurnReply.{TurnReply}
 use Rattle.protocol.specs.declared.TurnReply.the-variants.{Answered}
 use Rattle.protocol.proofs.Chain.{by-reply}
 use Rattle.protocol.proofs.Theorem.{turn-passed}
 use Rattle.history.proofs.Theorem.{history as all-lists}
 use Rattle.dealing.specs.Deal.{unfinished, finishBy}
-use Rattle.dealing.specs.Promise.{Tells, TellsPromise}
+use Rattle.dealing.specs.Promise.{TellsPromise}
 use Rattle.dealing.specs.declared.Ended.the-variants as ended
 use Rattle.dealing.specs.declared.Finish.{Finish}
 use Rattle.dealing.proofs.Answers.{Ends, Moves, goes, ends, turn-moves}
@@ -45,13 +44,13 @@ accepted M p t w a e = by-reply (turnCheck M p t w) (λ ok. ok)
     absurd (let z : _≡_ {A = ℕ} 0 1 = cc in omega arith))
 
 pub tells-promise : TellsPromise
-tells-promise M proper p u h up w a e =
+tells-promise M proper os p u h up w a e =
     let k = h .kind in
     let m = h .crew in
     let t = h .opened in
     let below : w < p .crew = turn-passed M p u w (accepted M p u w a e) .3 in
-    let moves = turn-moves M proper k m t p u (h .by) w below a e in
-    let same : k ≡ 3 → u ≡ t = λ find. h .by .table ∙ all-lists M proper k m t (h .by .accepted) (h .by .calls) .unchanged find in
+    let moves = turn-moves M proper k m t os p u (h .by) w below a e in
+    let same : k ≡ 3 → u ≡ t = λ find. h .by .table ∙ all-lists M proper k m t os (h .by .accepted) (h .by .calls) .unchanged find in
     let v = label (entryOf (doing p w)) in
     record {
       price = λ q is. let (find, right) = price-ends q (subst (Moves k t _ _) is moves) in subst (λ x. Sold label x v q) (sym (same find)) (right q .0 refl);

@@ -6,6 +6,7 @@ use mathlib.Core.List.{List, [], _∷_}
 use Prim.Native.Nat.{ℕ, zero, suc}
 use lib.ListN.{length, getD}
 use Rattle.prices.specs.Contents.{label}
+use Rattle.orders.specs.declared.Order.{Order}
 use Rattle.activities.specs.Activities.{entryOf}
 use Rattle.activities.specs.declared.Activity.the-variants.{Idle}
 use Rattle.rule.specs.declared.Answer.{Answer}
@@ -48,19 +49,18 @@ pub record Runs (M : Model) (p : Phase) (t : List ℕ) (d : Dealing) : Type 0 wh
   pub answered : (w : ℕ) → doing p w ≢ Idle → p .kind ≡ 3 → ((q : ℕ) × (finishOf d w ≡ Ended.Price q)) ⊎ (finishOf d w ≡ Ended.No)
   pub right : (w : ℕ) → doing p w ≢ Idle → p .kind ≡ 3 → (q : ℕ) → (finishOf d w ≡ Ended.Price q) ↔ Sold label t (label (entryOf (doing p w))) q
   pub places : length (d .dealt .finishes) ≡ M .room
-  -- by turns alone, in rounds of all workers
-  pub dealt : (r : ℕ) × ((s : History) → s .phase ≡ p → s .table ≡ t
-      → (d .dealt .phase ≡ history.run M (rounds (p .crew) r) s .phase) × (d .table ≡ history.run M (rounds (p .crew) r) s .table))
-  pub reached : Reached M (d .dealt .phase) (d .table)
+  -- by turns alone, in rounds of all workers, whatever list is lent
+  pub dealt : (r : ℕ) × ((os : List Order) (s : History) → s .phase ≡ p → s .table ≡ t
+      → (d .dealt .phase ≡ history.run M os (rounds (p .crew) r) s .phase) × (d .table ≡ history.run M os (rounds (p .crew) r) s .table))
+  pub reached : (os : List Order) → Reached M os p t → Reached M os (d .dealt .phase) (d .table)
   -- which change nothing but activities and cells
   pub frame : Framed p (d .dealt .phase)
-  pub left : d .dealt .phase .left ≡ p .left
   pub shut : d .dealt .phase .shut ≡ p .shut
   pub sized : length (d .table) ≡ length t
 
 -- from an open phase that calls have led to
 abbrev pub RunPromise : Type 0
-RunPromise = (M : Model) → Proper M → (p : Phase) (t : List ℕ) → Reached M p t → p .shut ≡ false → Runs M p t (run M p t)
+RunPromise = (M : Model) → Proper M → (os : List Order) (p : Phase) (t : List ℕ) → Reached M os p t → p .shut ≡ false → Runs M p t (run M p t)
 
 -- ---- one turn, from an open phase that calls have led to: a find that answers a price has found its key in the table at that price, and one that answers
 -- no has found that it stands there at none
@@ -69,11 +69,11 @@ pub record Tells (p : Phase) (t : List ℕ) (w : ℕ) (a : Answer) : Type 0 wher
   pub none : a ≡ No → (q : ℕ) → Sold label t (label (entryOf (doing p w))) q → ⊥
 
 abbrev pub TellsPromise : Type 0
-TellsPromise = (M : Model) → Proper M → (p : Phase) (t : List ℕ) → Reached M p t → p .shut ≡ false → (w : ℕ) (a : Answer)
+TellsPromise = (M : Model) → Proper M → (os : List Order) (p : Phase) (t : List ℕ) → Reached M os p t → p .shut ≡ false → (w : ℕ) (a : Answer)
     → turnCall M p t w .reply ≡ Answered a → Tells p t w a
 
 -- ---- a lap is one turn call of each worker, 0, 1 and so on. (What a run leaves does not show in which order its turns were dealt.)
 abbrev pub LapPromise : Type 0
-LapPromise = (M : Model) → Proper M → (d : Dealing) (s : History) → s .phase ≡ d .dealt .phase → s .table ≡ d .table
-    → (lap M d .dealt .phase ≡ history.run M (round (d .dealt .phase .crew) []) s .phase)
-    × (lap M d .table ≡ history.run M (round (d .dealt .phase .crew) []) s .table)
+LapPromise = (M : Model) → Proper M → (os : List Order) (d : Dealing) (s : History) → s .phase ≡ d .dealt .phase → s .table ≡ d .table
+    → (lap M d .dealt .phase ≡ history.run M os (round (d .dealt .phase .crew) []) s .phase)
+    × (lap M d .table ≡ history.run M os (round (d .dealt .phase .crew) []) s .table)

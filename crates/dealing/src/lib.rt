@@ -6,7 +6,7 @@ ghost use mathlib.Core.Path.{_≡_};
 ghost use mathlib.Core.Bool.{true, false};
 ghost use lib.ListN.{replicate};
 ghost use Rattle.state.specs.Model.{gateway};
-ghost use Rattle.dealing.specs.Reached.{Reached};
+ghost use Rattle.dealing.specs.Reached.{Led};
 ghost use Rattle.dealing.specs.Deal;
 ghost use Rattle.dealing.specs.Deal.{Dealing, unfinished, finishAfter};
 ghost use Rattle.dealing.specs.declared.Finish.{Finish};
@@ -80,7 +80,7 @@ fn is_kept(reply: TurnReply) -> bool
 // turn would change nothing. One function with both loops, so that the phase is not copied for each lap. The result is the definition's, and what is
 // promised of every run holds of it: all are idle, and each worker's finish is right.
 pub fn run(mut phase: Phase, cells: &mut [u64]) -> Dealt
-    requires { ⌜ Reached gateway phase (now cells) × (phase .shut ≡ false) ⌝ }
+    requires { ⌜ Led gateway phase (now cells) × (phase .shut ≡ false) ⌝ }
     ensures is_run { λ r. ⌜ _≡_ {A = Dealing} (record { dealt = r; table = now (cells .exit) }) (Deal.run gateway phase (now (cells .entry))) ⌝ }
     ensures promise { λ r. ⌜ Runs gateway phase (now (cells .entry)) (record { dealt = r; table = now (cells .exit) }) ⌝ }
 {

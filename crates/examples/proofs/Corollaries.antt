@@ -12,13 +12,15 @@ use Rattle.ring.specs.Counting.{count}
 use Rattle.ring.specs.Ring.{wrap, dist, prev}
 use Rattle.layout.specs.Home.{modulo}
 use Rattle.layout.specs.Layout.{In, into, descending, size, listed}
-use Rattle.layout.specs.Sound.{Holds, vacant, all, some, clear, isSound}
+use Rattle.layout.specs.Sound.{Holds, all, some, clear, isSound}
 use Rattle.layout.proofs.Sets.{held-in, in-holds}
 use Rattle.prices.specs.Contents.{label, content, SoundTable, isSoundTable}
 use Rattle.prices.specs.Priced.{labels, lesser, least, Least, SameLeast, PricedSound, pricedLayout, withoutLabels}
 use Rattle.prices.proofs.Contents.{contents}
 use Rattle.prices.proofs.Labels.{in-labels}
 use Rattle.prices.proofs.Theorem.{theorem as layouts}
+use Rattle.orders.specs.Orders.{lineFault, linesFault}
+use Rattle.orders.specs.declared.Order.{Order}
 use Rattle.words.specs.Promise.{keysBefore}
 use Rattle.words.specs.Words.{placeOf, countOf}
 use Rattle.words.proofs.Places.{count-occupied}
@@ -46,219 +48,239 @@ use Rattle.protocol.specs.WellFormed.{Size}
 use Rattle.protocol.proofs.Soundness.{sounds}
 use Rattle.tables.specs.Calls.{countNumber, listCall, listAfter, listFront}
 use Rattle.tables.proofs.Theorem.{theorem as tables}
-use Rattle.history.specs.History.{order, turn, worked, call, run, turnReplies, opening, after}
+use Rattle.history.specs.History.{turn, worked, call, run, turnReplies, opening, after}
 use Rattle.history.specs.Promise.{entriesAfter, Alike, Claim}
 use Rattle.history.proofs.Theorem.{refused, keeps-table, fixed, one-table, two-turns}
 use Rattle.history.proofs.Theorem as histories
-use Rattle.examples.specs.Forms.{emptyCells, callsOf}
+use Rattle.examples.specs.Forms.{emptyCells, handed, callsOf}
 use Rattle.examples.specs.Limits.{twoGroups}
-use Rattle.examples.specs.Examples.{four, atPrices, sheetPutsIn, looksUp, anyPrice}
-use Rattle.examples.specs.Corollaries.{turnsOf, rounds, together, inSequence, oneOrdered, twoOrdered, halfPutIn, threePutIn, eventsTogether, eventsInSequence}
-use Rattle.examples.specs.Corollaries.{twoPrice, threePrice, halfPriced, repriced, takenOut, halfTaken, withThirteen, thirteenOut, thePrices, sayingAt}
+use Rattle.examples.specs.Orders.{oneLine, wrongLines}
+use Rattle.examples.specs.Examples.{four, atPrices, sheetItems, sheetPutsIn, looksUp, anyLine}
+use Rattle.examples.specs.Corollaries.{turnsOf, rounds, together, inSequence, oneOrdered, halfPutIn, threeItems, threePutIn}
+use Rattle.examples.specs.Corollaries.{eventsTogether, eventsInSequence, takenOut, halfTaken, withThirteen, thirteenOut, sayingAt}
+use Rattle.examples.specs.Corollaries.{priceItems, twoPrice, morePriceItems, threePrice, halfPriced, repriceItems, repriced, thePriceItems, thePrices}
 use Rattle.examples.specs.Corollaries.{fewWorkers, manyWorkers, altered, fourKeys, sixPlaces, Corollaries}
 use Rattle.examples.proofs.Members.{apart, is-in, not-in, allIn, leastIn, same-prices, is-least, ownLeast, own-least, same-keys, same-orders, right-at}
 
 -- ---- openings
-four-opens : (openReply gateway 2 2 four ≡ Accepted) × (openReply gateway 2 1 four ≡ Accepted)
+four-opens : (openReply gateway 2 2 four [] ≡ Accepted) × (openReply gateway 2 1 four [] ≡ Accepted)
 unfolding isSoundTable isSound all some clear dist wrap
 four-opens = (refl, refl)
 
-four-looks : openReply gateway 3 2 four ≡ Accepted
+four-looks : openReply gateway 3 2 four [] ≡ Accepted
 unfolding isSoundTable isSound all some clear dist wrap
 four-looks = refl
 
-empty-opens : (openReply gateway 1 2 (emptyCells 5) ≡ Accepted) × (openReply gateway 1 3 (emptyCells 5) ≡ Accepted)
-unfolding isSoundTable isSound all some clear dist wrap
-empty-opens = (refl, refl)
+sheet-opens : (openReply gateway 1 2 (emptyCells 5) sheetItems ≡ Accepted) × (openReply gateway 1 3 (emptyCells 5) threeItems ≡ Accepted)
+unfolding lineFault linesFault descending into isSoundTable isSound all some clear dist wrap
+sheet-opens = (refl, refl)
 
-prices-open : (openReply gateway 1 2 atPrices ≡ Accepted) × (openReply gateway 2 1 atPrices ≡ Accepted) × (openReply gateway 3 2 atPrices ≡ Accepted)
-unfolding isSoundTable isSound all some clear dist wrap
+empty-opens : (openReply gateway 1 2 (emptyCells 5) priceItems ≡ Accepted)
+    × (openReply gateway 1 3 (emptyCells 5) morePriceItems ≡ Accepted)
+    × (openReply gateway 1 2 (emptyCells 5) thePriceItems ≡ Accepted)
+unfolding lineFault linesFault descending into isSoundTable isSound all some clear dist wrap
+empty-opens = (refl, refl, refl)
+
+prices-open : (openReply gateway 1 2 atPrices repriceItems ≡ Accepted)
+    × (openReply gateway 2 1 atPrices [] ≡ Accepted)
+    × (openReply gateway 3 2 atPrices wrongLines ≡ Accepted)
+unfolding lineFault linesFault descending into isSoundTable isSound all some clear dist wrap
 prices-open = (refl, refl, refl)
 
-thirteen-opens : openReply gateway 2 1 withThirteen ≡ Accepted
+thirteen-opens : openReply gateway 2 1 withThirteen [] ≡ Accepted
 unfolding isSoundTable isSound all some clear dist wrap
 thirteen-opens = refl
 
-seven-opens : openReply gateway 1 1 (ones (0 ∷ 7 ∷ [])) ≡ Accepted
+four-refused : (os : List Order) → openReply gateway 4 1 four os ≢ Accepted
 unfolding isSoundTable isSound all some clear dist wrap
-seven-opens = refl
+four-refused os e = let z : _≡_ {A = ℕ} 3 0 = ap replyNumber e in omega arith
 
-four-refused : openReply gateway 4 1 four ≢ Accepted
-unfolding isSoundTable isSound all some clear dist wrap
-four-refused e = let z : _≡_ {A = ℕ} 3 0 = ap replyNumber e in omega arith
+seven-refused : openReply gateway 1 1 (ones (0 ∷ 7 ∷ [])) (oneLine 4 1 0) ≢ Accepted
+unfolding lineFault linesFault descending into isSoundTable isSound all some clear dist wrap
+seven-refused e = let z : _≡_ {A = ℕ} 9 0 = ap replyNumber e in omega arith
 
 -- ---- the lists of calls are closed, and order the same keys
-take-out-closed : (after gateway 2 2 four together .closed ≡ true) × (after gateway 2 1 four inSequence .closed ≡ true)
-unfolding turnsOf rounds run call isWellFormed isSoundTable isSound all some clear dist wrap prev count rule deleteStep fits narrow
+take-out-closed : (after gateway 2 2 four [] together .closed ≡ true) × (after gateway 2 1 four [] inSequence .closed ≡ true)
+unfolding turnsOf rounds run call isWellFormed isSoundTable isSound all some clear dist wrap prev rule deleteStep fits narrow
 take-out-closed = (refl, refl)
 
-take-out-keys : SameOrders 2 label (after gateway 2 2 four together .ordered) (after gateway 2 1 four inSequence .ordered)
-unfolding allIn listed turnsOf rounds run call isWellFormed isSoundTable isSound all some clear dist wrap prev count rule deleteStep fits narrow
-take-out-keys = same-keys 2 (λ z. omega arith) (after gateway 2 2 four together .ordered) (after gateway 2 1 four inSequence .ordered) tt tt
+take-out-keys : SameOrders 2 label (after gateway 2 2 four [] together .ordered) (after gateway 2 1 four [] inSequence .ordered)
+unfolding allIn listed turnsOf rounds run call isWellFormed isSoundTable isSound all some clear dist wrap prev rule deleteStep fits narrow
+take-out-keys = same-keys 2 (λ z. omega arith) (after gateway 2 2 four [] together .ordered) (after gateway 2 1 four [] inSequence .ordered) tt tt
 
-take-out-ordered : after gateway 2 2 four together .ordered ≡ content 8 0 ∷ content 13 0 ∷ []
-unfolding turnsOf rounds run call isWellFormed isSoundTable isSound all some clear dist wrap prev count rule deleteStep fits narrow
+take-out-ordered : after gateway 2 2 four [] together .ordered ≡ content 8 0 ∷ content 13 0 ∷ []
+unfolding turnsOf rounds run call isWellFormed isSoundTable isSound all some clear dist wrap prev rule deleteStep fits narrow
 take-out-ordered = refl
 
-put-in-closed : (after gateway 1 2 (emptyCells 5) (callsOf sheetPutsIn) .closed ≡ true) × (after gateway 1 3 (emptyCells 5) threePutIn .closed ≡ true)
-unfolding turnsOf rounds run call isWellFormed isSoundTable isSound all some clear dist wrap count rule settled absorbed insertStep
+put-in-closed : (after gateway 1 2 (emptyCells 5) sheetItems (callsOf sheetPutsIn) .closed ≡ true)
+    × (after gateway 1 3 (emptyCells 5) threeItems threePutIn .closed ≡ true)
+unfolding turnsOf rounds run call isWellFormed
+    lineFault linesFault descending into isSoundTable isSound all some clear dist wrap rule settled absorbed insertStep
 put-in-closed = (refl, refl)
 
-put-in-keys : SameOrders 1 label (after gateway 1 2 (emptyCells 5) (callsOf sheetPutsIn) .ordered) (after gateway 1 3 (emptyCells 5) threePutIn .ordered)
-unfolding leastIn listed lesser least turnsOf rounds run call isWellFormed isSoundTable isSound all some clear dist wrap count rule settled absorbed insertStep
-put-in-keys = same-orders 1 (after gateway 1 2 (emptyCells 5) (callsOf sheetPutsIn) .ordered) (after gateway 1 3 (emptyCells 5) threePutIn .ordered) tt tt
+put-in-keys : SameOrders 1 label (after gateway 1 2 (emptyCells 5) sheetItems (callsOf sheetPutsIn) .ordered)
+    (after gateway 1 3 (emptyCells 5) threeItems threePutIn .ordered)
+unfolding leastIn listed lesser least turnsOf rounds run call isWellFormed
+    lineFault linesFault descending into isSoundTable isSound all some clear dist wrap rule settled absorbed insertStep
+put-in-keys =
+    same-orders 1 (after gateway 1 2 (emptyCells 5) sheetItems (callsOf sheetPutsIn) .ordered)
+    (after gateway 1 3 (emptyCells 5) threeItems threePutIn .ordered) tt tt
 
-prices-closed : (after gateway 1 2 (emptyCells 5) twoPrice .closed ≡ true) × (after gateway 1 3 (emptyCells 5) threePrice .closed ≡ true)
-unfolding turnsOf rounds run call isWellFormed isSoundTable isSound all some clear dist wrap count rule settled absorbed insertStep
+prices-closed : (after gateway 1 2 (emptyCells 5) priceItems twoPrice .closed ≡ true)
+    × (after gateway 1 3 (emptyCells 5) morePriceItems threePrice .closed ≡ true)
+unfolding turnsOf rounds run call isWellFormed
+    lineFault linesFault descending into isSoundTable isSound all some clear dist wrap rule settled absorbed insertStep
 prices-closed = (refl, refl)
 
-prices-keys : SameOrders 1 label (after gateway 1 2 (emptyCells 5) twoPrice .ordered) (after gateway 1 3 (emptyCells 5) threePrice .ordered)
-unfolding leastIn listed lesser least turnsOf rounds run call isWellFormed isSoundTable isSound all some clear dist wrap count rule settled absorbed insertStep
-prices-keys = same-orders 1 (after gateway 1 2 (emptyCells 5) twoPrice .ordered) (after gateway 1 3 (emptyCells 5) threePrice .ordered) tt tt
+prices-keys : SameOrders 1 label (after gateway 1 2 (emptyCells 5) priceItems twoPrice .ordered)
+    (after gateway 1 3 (emptyCells 5) morePriceItems threePrice .ordered)
+unfolding leastIn listed lesser least turnsOf rounds run call isWellFormed
+    lineFault linesFault descending into isSoundTable isSound all some clear dist wrap rule settled absorbed insertStep
+prices-keys =
+    same-orders 1 (after gateway 1 2 (emptyCells 5) priceItems twoPrice .ordered)
+    (after gateway 1 3 (emptyCells 5) morePriceItems threePrice .ordered) tt tt
 
-the-prices-closed : after gateway 1 2 (emptyCells 5) thePrices .closed ≡ true
-unfolding turnsOf rounds run call isWellFormed isSoundTable isSound all some clear dist wrap count rule settled absorbed insertStep
+the-prices-closed : after gateway 1 2 (emptyCells 5) thePriceItems thePrices .closed ≡ true
+unfolding turnsOf rounds run call isWellFormed
+    lineFault linesFault descending into isSoundTable isSound all some clear dist wrap rule settled absorbed insertStep
 the-prices-closed = refl
 
-thirteen-closed : after gateway 2 1 withThirteen thirteenOut .closed ≡ true
-unfolding turnsOf rounds run call isWellFormed isSoundTable isSound all some clear dist wrap prev count rule deleteStep fits narrow
+thirteen-closed : after gateway 2 1 withThirteen [] thirteenOut .closed ≡ true
+unfolding turnsOf rounds run call isWellFormed isSoundTable isSound all some clear dist wrap prev rule deleteStep fits narrow
 thirteen-closed = refl
 
 -- 13 taken out of the one table, 8 and 3 put into the other
-left-over : SameLeast label (entriesAfter 2 (after gateway 2 1 withThirteen thirteenOut .ordered) withThirteen)
-    (entriesAfter 1 (after gateway 1 2 (emptyCells 5) thePrices .ordered) (emptyCells 5))
+left-over : SameLeast label (entriesAfter 2 (after gateway 2 1 withThirteen [] thirteenOut .ordered) withThirteen)
+    (entriesAfter 1 (after gateway 1 2 (emptyCells 5) thePriceItems thePrices .ordered) (emptyCells 5))
 unfolding withoutLabels leastIn listed lesser least turnsOf rounds run call
-    isWellFormed isSoundTable isSound all some clear dist wrap prev count rule settled absorbed insertStep deleteStep fits narrow
-left-over = same-prices (entriesAfter 2 (after gateway 2 1 withThirteen thirteenOut .ordered) withThirteen)
-    (entriesAfter 1 (after gateway 1 2 (emptyCells 5) thePrices .ordered) (emptyCells 5)) tt tt
+    isWellFormed lineFault linesFault descending into isSoundTable isSound all some clear dist wrap prev rule settled absorbed insertStep deleteStep fits narrow
+left-over = same-prices (entriesAfter 2 (after gateway 2 1 withThirteen [] thirteenOut .ordered) withThirteen)
+    (entriesAfter 1 (after gateway 1 2 (emptyCells 5) thePriceItems thePrices .ordered) (emptyCells 5)) tt tt
 
-none-ordered : after gateway 2 2 four (turn 0 ∷ order 1 0 1 ∷ order 2 8 1 ∷ turn 1 ∷ []) .ordered ≡ []
-unfolding run call isWellFormed isSoundTable isSound all some clear dist wrap count
+none-ordered : after gateway 2 2 four [] (turn 0 ∷ handed 1 0 ∷ handed 2 8 ∷ turn 1 ∷ []) .ordered ≡ []
+unfolding run call isWellFormed isSoundTable isSound all some clear dist wrap
 none-ordered = refl
 
 -- ---- lists that are not closed
--- {7} leaves one empty cell of two, so no order
-seven-full : (suc (length (after gateway 1 1 (ones (0 ∷ 7 ∷ [])) [] .ordered)) ≡ vacant (ones (0 ∷ 7 ∷ [])))
-    × (after gateway 1 1 (ones (0 ∷ 7 ∷ [])) [] .closed ≡ false)
-    × (doing (after gateway 1 1 (ones (0 ∷ 7 ∷ [])) [] .phase) 0 ≡ Idle)
-unfolding run isSoundTable isSound all some clear dist wrap count
-seven-full = (refl, refl, refl)
-
-two-ordered : (length (after gateway 1 2 (emptyCells 5) twoOrdered .ordered) ≡ 2) × (vacant (emptyCells 5) ≡ 5)
-unfolding run call isWellFormed isSoundTable isSound all some clear dist wrap count
-two-ordered = (refl, refl)
-
-one-pending : (getD (after gateway 2 2 four oneOrdered .pending) 0 0 ≡ content 13 0) × (getD (after gateway 2 2 four oneOrdered .pending) 1 0 ≡ 0)
-unfolding run call isWellFormed isSoundTable isSound all some clear dist wrap count
+one-pending : (getD (after gateway 2 2 four [] oneOrdered .pending) 0 0 ≡ content 13 0) × (getD (after gateway 2 2 four [] oneOrdered .pending) 1 0 ≡ 0)
+unfolding run call isWellFormed isSoundTable isSound all some clear dist wrap
 one-pending = (refl, refl)
 
 -- the answers of the turns, counted
-turns-worked : count worked (turnReplies gateway together (opening gateway 2 2 four)) ≡ 27
+turns-worked : count worked (turnReplies gateway [] together (opening gateway 2 2 four [])) ≡ 27
 unfolding turnReplies turnsOf rounds run call isWellFormed isSoundTable isSound all some clear dist wrap prev count rule deleteStep fits narrow
 turns-worked = refl
 
-take-out-claim : Claim gateway 2 2 four together
-take-out-claim = histories.history gateway gateway-proper 2 2 four (four-opens .0) together
+take-out-claim : Claim gateway 2 2 four [] together
+take-out-claim = histories.history gateway gateway-proper 2 2 four [] (four-opens .0) together
 
-one-claim : Claim gateway 2 2 four oneOrdered
-one-claim = histories.history gateway gateway-proper 2 2 four (four-opens .0) oneOrdered
+one-claim : Claim gateway 2 2 four [] oneOrdered
+one-claim = histories.history gateway gateway-proper 2 2 four [] (four-opens .0) oneOrdered
 
-half-claim : Claim gateway 1 2 (emptyCells 5) halfPutIn
-half-claim = histories.history gateway gateway-proper 1 2 (emptyCells 5) (empty-opens .0) halfPutIn
+half-claim : Claim gateway 1 2 (emptyCells 5) sheetItems halfPutIn
+half-claim = histories.history gateway gateway-proper 1 2 (emptyCells 5) sheetItems (sheet-opens .0) halfPutIn
 
-look-claim : Claim gateway 3 2 four (callsOf looksUp)
-look-claim = histories.history gateway gateway-proper 3 2 four four-looks (callsOf looksUp)
+look-claim : Claim gateway 3 2 four [] (callsOf looksUp)
+look-claim = histories.history gateway gateway-proper 3 2 four [] four-looks (callsOf looksUp)
 
-half-ordered : In 3 (labels label (after gateway 1 2 (emptyCells 5) halfPutIn .ordered))
-unfolding listed turnsOf rounds run call isWellFormed isSoundTable isSound all some clear dist wrap count rule settled absorbed insertStep
-half-ordered = is-in 3 (labels label (after gateway 1 2 (emptyCells 5) halfPutIn .ordered)) tt
+half-ordered : In 3 (labels label (after gateway 1 2 (emptyCells 5) sheetItems halfPutIn .ordered))
+unfolding listed turnsOf rounds run call isWellFormed
+    lineFault linesFault descending into isSoundTable isSound all some clear dist wrap rule settled absorbed insertStep
+half-ordered = is-in 3 (labels label (after gateway 1 2 (emptyCells 5) sheetItems halfPutIn .ordered)) tt
 
-three-unordered : In 3 (labels label (after gateway 2 2 four together .ordered)) → ⊥
-unfolding listed turnsOf rounds run call isWellFormed isSoundTable isSound all some clear dist wrap prev count rule deleteStep fits narrow
-three-unordered = not-in 3 (labels label (after gateway 2 2 four together .ordered)) tt
+-- not closed, and worker 0 is idle again
+half-open : (after gateway 1 2 (emptyCells 5) sheetItems halfPutIn .closed ≡ false)
+    × (doing (after gateway 1 2 (emptyCells 5) sheetItems halfPutIn .phase) 0 ≡ Idle)
+unfolding turnsOf rounds run call isWellFormed
+    lineFault linesFault descending into isSoundTable isSound all some clear dist wrap rule settled absorbed insertStep
+half-open = (refl, refl)
+
+three-unordered : In 3 (labels label (after gateway 2 2 four [] together .ordered)) → ⊥
+unfolding listed turnsOf rounds run call isWellFormed isSoundTable isSound all some clear dist wrap prev rule deleteStep fits narrow
+three-unordered = not-in 3 (labels label (after gateway 2 2 four [] together .ordered)) tt
 
 -- 4 was ordered once, and its order has finished
-four-looked : (count (λ x. eqb (label x) 4) (after gateway 3 2 four (callsOf looksUp) .pending) ≡ 0)
-    × (count (λ x. eqb (label x) 4) (after gateway 3 2 four (callsOf looksUp) .ordered) ≡ 1)
+four-looked : (count (λ x. eqb (label x) 4) (after gateway 3 2 four [] (callsOf looksUp) .pending) ≡ 0)
+    × (count (λ x. eqb (label x) 4) (after gateway 3 2 four [] (callsOf looksUp) .ordered) ≡ 1)
 unfolding run call isWellFormed isSoundTable isSound all some clear dist wrap count rule findStep
 four-looked = (refl, refl)
 
-two-left : after gateway 1 2 (emptyCells 5) twoOrdered .phase .left ≡ 2
-two-left =
-    let e = histories.history gateway gateway-proper 1 2 (emptyCells 5) (empty-opens .0) twoOrdered .left refl in
-    omega (arith, e, two-ordered .0, two-ordered .1)
-
 -- ---- prices
-priced-claim : Claim gateway 1 2 (emptyCells 5) twoPrice
-priced-claim = histories.history gateway gateway-proper 1 2 (emptyCells 5) (empty-opens .0) twoPrice
+priced-claim : Claim gateway 1 2 (emptyCells 5) priceItems twoPrice
+priced-claim = histories.history gateway gateway-proper 1 2 (emptyCells 5) priceItems (empty-opens .0) twoPrice
 
-half-priced-claim : Claim gateway 1 2 (emptyCells 5) halfPriced
-half-priced-claim = histories.history gateway gateway-proper 1 2 (emptyCells 5) (empty-opens .0) halfPriced
+half-priced-claim : Claim gateway 1 2 (emptyCells 5) priceItems halfPriced
+half-priced-claim = histories.history gateway gateway-proper 1 2 (emptyCells 5) priceItems (empty-opens .0) halfPriced
 
-repriced-claim : Claim gateway 1 2 atPrices repriced
-repriced-claim = histories.history gateway gateway-proper 1 2 atPrices (prices-open .0) repriced
+repriced-claim : Claim gateway 1 2 atPrices repriceItems repriced
+repriced-claim = histories.history gateway gateway-proper 1 2 atPrices repriceItems (prices-open .0) repriced
 
-taken-claim : Claim gateway 2 1 atPrices takenOut
-taken-claim = histories.history gateway gateway-proper 2 1 atPrices (prices-open .1) takenOut
+taken-claim : Claim gateway 2 1 atPrices [] takenOut
+taken-claim = histories.history gateway gateway-proper 2 1 atPrices [] (prices-open .1) takenOut
 
-half-taken-claim : Claim gateway 2 1 atPrices halfTaken
-half-taken-claim = histories.history gateway gateway-proper 2 1 atPrices (prices-open .1) halfTaken
+half-taken-claim : Claim gateway 2 1 atPrices [] halfTaken
+half-taken-claim = histories.history gateway gateway-proper 2 1 atPrices [] (prices-open .1) halfTaken
 
-price-claim : Claim gateway 3 2 atPrices (callsOf anyPrice)
-price-claim = histories.history gateway gateway-proper 3 2 atPrices (prices-open .2) (callsOf anyPrice)
+price-claim : Claim gateway 3 2 atPrices wrongLines (callsOf anyLine)
+price-claim = histories.history gateway gateway-proper 3 2 atPrices wrongLines (prices-open .2) (callsOf anyLine)
 
 -- the least and a greater price ordered for 8
-eight-least : Least label (after gateway 1 2 (emptyCells 5) twoPrice .ordered ++ emptyCells 5) (content 8 3)
-unfolding listed lesser least turnsOf rounds run call isWellFormed isSoundTable isSound all some clear dist wrap count rule settled absorbed insertStep
+eight-least : Least label (after gateway 1 2 (emptyCells 5) priceItems twoPrice .ordered ++ emptyCells 5) (content 8 3)
+unfolding listed lesser least turnsOf rounds run call isWellFormed
+    lineFault linesFault descending into isSoundTable isSound all some clear dist wrap rule settled absorbed insertStep
 eight-least =
-    let xs = after gateway 1 2 (emptyCells 5) twoPrice .ordered ++ emptyCells 5 in
+    let xs = after gateway 1 2 (emptyCells 5) priceItems twoPrice .ordered ++ emptyCells 5 in
     is-least xs (content 8 3) (apart 8 0 tt) (is-in (content 8 3) xs tt) tt
 
-eight-dearer : Least label (after gateway 1 2 (emptyCells 5) twoPrice .ordered ++ emptyCells 5) (content 8 5) → ⊥
+eight-dearer : Least label (after gateway 1 2 (emptyCells 5) priceItems twoPrice .ordered ++ emptyCells 5) (content 8 5) → ⊥
 eight-dearer l = let z : content 8 5 ≤ content 8 3 = l .most (content 8 3) (eight-least .member) refl in omega arith
 
-half-least : Least label (after gateway 1 2 (emptyCells 5) halfPriced .ordered ++ emptyCells 5) (content 8 3)
-unfolding listed lesser least turnsOf rounds run call isWellFormed isSoundTable isSound all some clear dist wrap count rule settled absorbed insertStep
+half-least : Least label (after gateway 1 2 (emptyCells 5) priceItems halfPriced .ordered ++ emptyCells 5) (content 8 3)
+unfolding listed lesser least turnsOf rounds run call isWellFormed
+    lineFault linesFault descending into isSoundTable isSound all some clear dist wrap rule settled absorbed insertStep
 half-least =
-    let xs = after gateway 1 2 (emptyCells 5) halfPriced .ordered ++ emptyCells 5 in
+    let xs = after gateway 1 2 (emptyCells 5) priceItems halfPriced .ordered ++ emptyCells 5 in
     is-least xs (content 8 3) (apart 8 0 tt) (is-in (content 8 3) xs tt) tt
 
-never-ordered : In (content 8 4) (after gateway 1 2 (emptyCells 5) halfPriced .ordered ++ emptyCells 5) → ⊥
-unfolding listed turnsOf rounds run call isWellFormed isSoundTable isSound all some clear dist wrap count rule settled absorbed insertStep
-never-ordered = not-in (content 8 4) (after gateway 1 2 (emptyCells 5) halfPriced .ordered ++ emptyCells 5) tt
+never-ordered : In (content 8 4) (after gateway 1 2 (emptyCells 5) priceItems halfPriced .ordered ++ emptyCells 5) → ⊥
+unfolding listed turnsOf rounds run call isWellFormed
+    lineFault linesFault descending into isSoundTable isSound all some clear dist wrap rule settled absorbed insertStep
+never-ordered = not-in (content 8 4) (after gateway 1 2 (emptyCells 5) priceItems halfPriced .ordered ++ emptyCells 5) tt
 
 -- 8 keeps its price at opening, 3 gets a lower one
-repriced-closed : after gateway 1 2 atPrices repriced .closed ≡ true
-unfolding turnsOf rounds run call isWellFormed isSoundTable isSound all some clear dist wrap count rule settled absorbed insertStep
+repriced-closed : after gateway 1 2 atPrices repriceItems repriced .closed ≡ true
+unfolding turnsOf rounds run call isWellFormed
+    lineFault linesFault descending into isSoundTable isSound all some clear dist wrap rule settled absorbed insertStep
 repriced-closed = refl
 
-repriced-least : Least label (after gateway 1 2 atPrices repriced .ordered ++ atPrices) (content 8 9)
-    × Least label (after gateway 1 2 atPrices repriced .ordered ++ atPrices) (content 3 2)
-unfolding listed lesser least turnsOf rounds run call isWellFormed isSoundTable isSound all some clear dist wrap count rule settled absorbed insertStep
+repriced-least : Least label (after gateway 1 2 atPrices repriceItems repriced .ordered ++ atPrices) (content 8 9)
+    × Least label (after gateway 1 2 atPrices repriceItems repriced .ordered ++ atPrices) (content 3 2)
+unfolding listed lesser least turnsOf rounds run call isWellFormed
+    lineFault linesFault descending into isSoundTable isSound all some clear dist wrap rule settled absorbed insertStep
 repriced-least =
-    let xs = after gateway 1 2 atPrices repriced .ordered ++ atPrices in (
+    let xs = after gateway 1 2 atPrices repriceItems repriced .ordered ++ atPrices in (
       is-least xs (content 8 9) (apart 8 0 tt) (is-in (content 8 9) xs tt) tt,
       is-least xs (content 3 2) (apart 3 0 tt) (is-in (content 3 2) xs tt) tt,
     )
 
-three-dearer : Least label (after gateway 1 2 atPrices repriced .ordered ++ atPrices) (content 3 7) → ⊥
+three-dearer : Least label (after gateway 1 2 atPrices repriceItems repriced .ordered ++ atPrices) (content 3 7) → ⊥
 three-dearer l = let z : content 3 7 ≤ content 3 2 = l .most (content 3 2) (repriced-least .1 .member) refl in omega arith
 
 -- taken out: 8 was ordered, 3 was not
-taken-closed : after gateway 2 1 atPrices takenOut .closed ≡ true
-unfolding turnsOf rounds run call isWellFormed isSoundTable isSound all some clear dist wrap prev count rule deleteStep fits narrow
+taken-closed : after gateway 2 1 atPrices [] takenOut .closed ≡ true
+unfolding turnsOf rounds run call isWellFormed isSoundTable isSound all some clear dist wrap prev rule deleteStep fits narrow
 taken-closed = refl
 
-eight-taken : In 8 (labels label (after gateway 2 1 atPrices takenOut .ordered))
-unfolding listed turnsOf rounds run call isWellFormed isSoundTable isSound all some clear dist wrap prev count rule deleteStep fits narrow
-eight-taken = is-in 8 (labels label (after gateway 2 1 atPrices takenOut .ordered)) tt
+eight-taken : In 8 (labels label (after gateway 2 1 atPrices [] takenOut .ordered))
+unfolding listed turnsOf rounds run call isWellFormed isSoundTable isSound all some clear dist wrap prev rule deleteStep fits narrow
+eight-taken = is-in 8 (labels label (after gateway 2 1 atPrices [] takenOut .ordered)) tt
 
-three-kept : (In 3 (labels label (after gateway 2 1 atPrices takenOut .ordered)) → ⊥)
-    × (In 3 (labels label (after gateway 2 1 atPrices halfTaken .ordered)) → ⊥)
-unfolding listed turnsOf rounds run call isWellFormed isSoundTable isSound all some clear dist wrap prev count rule deleteStep fits narrow
+three-kept : (In 3 (labels label (after gateway 2 1 atPrices [] takenOut .ordered)) → ⊥)
+    × (In 3 (labels label (after gateway 2 1 atPrices [] halfTaken .ordered)) → ⊥)
+unfolding listed turnsOf rounds run call isWellFormed isSoundTable isSound all some clear dist wrap prev rule deleteStep fits narrow
 three-kept = (
-  not-in 3 (labels label (after gateway 2 1 atPrices takenOut .ordered)) tt,
-  not-in 3 (labels label (after gateway 2 1 atPrices halfTaken .ordered)) tt,
+  not-in 3 (labels label (after gateway 2 1 atPrices [] takenOut .ordered)) tt,
+  not-in 3 (labels label (after gateway 2 1 atPrices [] halfTaken .ordered)) tt,
 )
 
 three-there : In (content 3 7) atPrices
@@ -270,10 +292,10 @@ unfolding listed
 no-three = not-in (content 3 8) atPrices tt
 
 -- looked up: 4 last, 3 before it
-looked : (1 < length (after gateway 3 2 atPrices (callsOf anyPrice) .said))
-    × (label (sayingAt (after gateway 3 2 atPrices (callsOf anyPrice) .said) 0 .wanted) ≡ 4)
-    × (label (sayingAt (after gateway 3 2 atPrices (callsOf anyPrice) .said) 1 .wanted) ≡ 3)
-unfolding run call isWellFormed isSoundTable isSound all some clear dist wrap count rule findStep
+looked : (1 < length (after gateway 3 2 atPrices wrongLines (callsOf anyLine) .said))
+    × (label (sayingAt (after gateway 3 2 atPrices wrongLines (callsOf anyLine) .said) 0 .wanted) ≡ 4)
+    × (label (sayingAt (after gateway 3 2 atPrices wrongLines (callsOf anyLine) .said) 1 .wanted) ≡ 3)
+unfolding run call isWellFormed isSoundTable isSound all some clear dist wrap rule findStep
 looked = (omega arith, refl, refl)
 
 three-sold : Sold label atPrices 3 7
@@ -285,15 +307,15 @@ four-unsold p s =
     not-in 4 (labels label atPrices) tt
     (subst (λ (l : ℕ). In l (labels label atPrices)) (s .is) (in-labels label atPrices (s .content) (s .member)))
 
-three-costs : sayingAt (after gateway 3 2 atPrices (callsOf anyPrice) .said) 1 .price ≡ 7
+three-costs : sayingAt (after gateway 3 2 atPrices wrongLines (callsOf anyLine) .said) 1 .price ≡ 7
 three-costs =
-    let said = after gateway 3 2 atPrices (callsOf anyPrice) .said in
+    let said = after gateway 3 2 atPrices wrongLines (callsOf anyLine) .said in
     let (l, _, e) = looked in
     right-at atPrices said (price-claim .right refl) 1 l 7 .1 (subst (λ (x : ℕ). Sold label atPrices x 7) (sym e) three-sold) .1
 
-four-not-found : T (sayingAt (after gateway 3 2 atPrices (callsOf anyPrice) .said) 0 .found) → ⊥
+four-not-found : T (sayingAt (after gateway 3 2 atPrices wrongLines (callsOf anyLine) .said) 0 .found) → ⊥
 four-not-found h =
-    let said = after gateway 3 2 atPrices (callsOf anyPrice) .said in
+    let said = after gateway 3 2 atPrices wrongLines (callsOf anyLine) .said in
     let (l, e, _) = looked in
     let p : ℕ = sayingAt said 0 .price in
     four-unsold p (subst (λ (x : ℕ). Sold label atPrices x p) e (right-at atPrices said (price-claim .right refl) 0 (omega arith) p .0 (h, refl)))
@@ -405,11 +427,11 @@ corollaries =
     let lists = tables gateway gateway-proper four sixPlaces in
     record {
       take-out =
-          one-table gateway gateway gateway-proper gateway-proper 2 2 1 four (λ x. refl) (four-opens .0) (four-opens .1) together inSequence take-out-keys
+          one-table gateway gateway gateway-proper gateway-proper 2 2 1 four [] [] (λ x. refl) (four-opens .0) (four-opens .1) together inSequence take-out-keys
           (take-out-closed .0) (take-out-closed .1);
       put-in =
-          one-table gateway gateway gateway-proper gateway-proper 1 2 3 (emptyCells 5) (λ x. refl) (empty-opens .0) (empty-opens .1) (callsOf sheetPutsIn)
-          threePutIn put-in-keys (put-in-closed .0) (put-in-closed .1);
+          one-table gateway gateway gateway-proper gateway-proper 1 2 3 (emptyCells 5) sheetItems threeItems (λ x. refl) (sheet-opens .0) (sheet-opens .1)
+          (callsOf sheetPutsIn) threePutIn put-in-keys (put-in-closed .0) (put-in-closed .1);
       one-end =
           one-end 2 5 2 1 (inr (inl refl)) label (modulo 5) five-rules four four-priced eventsTogether eventsInSequence (λ z. absurd (apart 2 1 tt z))
           events-keys (events-idle .0) (events-idle .1);
@@ -417,39 +439,37 @@ corollaries =
           take-out-claim .closed (take-out-closed .0)
           ∙ ap (λ (xs : List ℕ). pricedLayout 5 label (modulo 5) (withoutLabels label xs four)) take-out-ordered;
       put-in-prices =
-          one-table gateway gateway gateway-proper gateway-proper 1 2 3 (emptyCells 5) (λ x. refl) (empty-opens .0) (empty-opens .1) twoPrice threePrice
-          prices-keys (prices-closed .0) (prices-closed .1);
+          one-table gateway gateway gateway-proper gateway-proper 1 2 3 (emptyCells 5) priceItems morePriceItems (λ x. refl) (empty-opens .0) (empty-opens .1)
+          twoPrice threePrice prices-keys (prices-closed .0) (prices-closed .1);
       fixed =
-          fixed gateway gateway gateway-proper gateway-proper 2 1 1 2 withThirteen (emptyCells 5) refl (λ x. refl) thirteen-opens (empty-opens .0) thirteenOut
-          thePrices left-over thirteen-closed the-prices-closed;
-      sound = subst (λ (n : ℕ). SoundTable n (modulo n) (after gateway 1 2 (emptyCells 5) twoPrice .table)) (priced-claim .numbers .sized)
+          fixed gateway gateway gateway-proper gateway-proper 2 1 1 2 withThirteen (emptyCells 5) [] thePriceItems refl (λ x. refl) thirteen-opens
+          (empty-opens .2) thirteenOut thePrices left-over thirteen-closed the-prices-closed;
+      sound = subst (λ (n : ℕ). SoundTable n (modulo n) (after gateway 1 2 (emptyCells 5) priceItems twoPrice .table)) (priced-claim .numbers .sized)
           (priced-claim .sound (prices-closed .0));
-      sound-in-words = sounds gateway (after gateway 1 2 (emptyCells 5) twoPrice .table) .0 (priced-claim .sound (prices-closed .0));
+      sound-in-words = sounds gateway (after gateway 1 2 (emptyCells 5) priceItems twoPrice .table) .0 (priced-claim .sound (prices-closed .0));
       right-cells = half-priced-claim .cells;
       cheapest = priced-claim .cheapest refl (prices-closed .0) (content 8 3) (apart 8 0 tt) .1 eight-least;
       not-dearer = λ i. eight-dearer (priced-claim .cheapest refl (prices-closed .0) (content 8 5) (apart 8 0 tt) .0 i);
       opening-price = repriced-claim .cheapest refl repriced-closed (content 8 9) (apart 8 0 tt) .1 (repriced-least .0);
       lower-price = repriced-claim .cheapest refl repriced-closed (content 3 2) (apart 3 0 tt) .1 (repriced-least .1);
       price-gone = λ i. three-dearer (repriced-claim .cheapest refl repriced-closed (content 3 7) (apart 3 0 tt) .0 i);
-      handed-back = λ cs. refused gateway 4 1 four four-refused cs .0;
-      kept = keeps-table gateway gateway-proper 2 2 four (four-opens .0) .no-orders (turn 0 ∷ order 1 0 1 ∷ order 2 8 1 ∷ turn 1 ∷ []) none-ordered;
-      at-once = keeps-table gateway gateway-proper 2 2 four (four-opens .0) .at-once .0;
-      at-once-kept = keeps-table gateway gateway-proper 2 2 four (four-opens .0) .at-once .1;
-      full =
-          let (up, running, idle) = seven-full in
-          histories.history gateway gateway-proper 1 1 (ones (0 ∷ 7 ∷ [])) seven-opens [] .full 0 4 1 .1
-          (refl, up, running, omega arith, idle, λ z. omega arith, omega arith, omega arith);
-      left = two-left;
-      none-left = one-claim .none-left (λ z. omega arith);
+      handed-back = λ os cs. refused gateway 4 1 four os (four-refused os) cs .0;
+      full-handed-back = λ cs. refused gateway 1 1 (ones (0 ∷ 7 ∷ [])) (oneLine 4 1 0) seven-refused cs .0;
+      kept = keeps-table gateway gateway-proper 2 2 four [] (four-opens .0) .no-orders (turn 0 ∷ handed 1 0 ∷ handed 2 8 ∷ turn 1 ∷ []) none-ordered;
+      at-once = keeps-table gateway gateway-proper 2 2 four [] (four-opens .0) .at-once .0;
+      at-once-kept = keeps-table gateway gateway-proper 2 2 four [] (four-opens .0) .at-once .1;
       counts = take-out-claim .counts ∙ turns-worked;
       bounded =
-          subst (λ (xs : List ℕ). after gateway 2 2 four together .counted < mostSteps 5 2 (length xs)) take-out-ordered (take-out-claim .bounded);
+          subst (λ (xs : List ℕ). after gateway 2 2 four [] together .counted < mostSteps 5 2 (length xs)) take-out-ordered (take-out-claim .bounded);
       shut = take-out-claim .shut ∙ take-out-closed .0;
       working = λ e. let z = one-claim .unfinished 0 .1 e in omega (arith, one-pending .0, z);
       resting = one-claim .unfinished 1 .0 (one-pending .1);
       numbers = take-out-claim .numbers .crew;
       formed = take-out-claim .formed;
       acceptable = λ y i. priced-claim .acceptable y i .priced refl;
+      listed-only = priced-claim .listed refl;
+      accepts = half-claim .accepts refl (half-open .0) 2 (omega arith) (half-open .1);
+      accepts-again = half-claim .accepts refl (half-open .0) 0 (omega arith) (half-open .1);
       ordering = half-claim .ordering refl;
       union = half-claim .union refl 3 (λ z. omega arith) .1 (inr half-ordered);
       least-there = half-priced-claim .prices refl (content 8 3) (apart 8 0 tt) .1 half-least;

@@ -2,21 +2,23 @@
 use mathlib.Core.Path.{_≡_, refl, sym, ap, _∙_, subst}
 use mathlib.Core.Logic.{_≢_, _↔_, inl}
 use mathlib.Core.Bool.{true}
-use mathlib.Core.List.{[], _∷_}
-use Prim.Native.Nat.{ℕ, suc, _≤_}
+use mathlib.Core.List.{[], _∷_, _++_}
+use Prim.Native.Nat.{ℕ, suc, _≤_, _<_}
 use native.Mathlib.Nat.{zero-lt-suc, mod-lt}
 use native.Mathlib.Omega.{arith}
 use lib.ListN.{getD}
 use Rattle.ring.specs.Counting.{count}
 use Rattle.ring.specs.Ring.{wrap, dist}
 use Rattle.layout.specs.Home.{modulo}
-use Rattle.layout.specs.Layout.{into, descending, size, listed}
+use Rattle.layout.specs.Layout.{In, into, descending, size, listed}
 use Rattle.layout.specs.Sound.{Holds, all, some, clear, isSound}
 use Rattle.layout.proofs.Sets.{held-in, in-holds}
 use Rattle.prices.specs.Contents.{label, content, SoundTable, isSoundTable}
 use Rattle.prices.specs.Priced.{labels, lesser, least, Least, SameLeast, PricedSound}
 use Rattle.prices.proofs.Contents.{contents}
+use Rattle.prices.proofs.Labels.{in-labels}
 use Rattle.prices.proofs.Theorem.{theorem as layouts}
+use Rattle.orders.specs.Orders.{lineFault, linesFault}
 use Rattle.words.specs.Promise.{keysBefore}
 use Rattle.rule.specs.declared.Place.{Place}
 use Rattle.rule.specs.declared.Place.the-variants.{At}
@@ -26,6 +28,7 @@ use Rattle.rule.specs.Rule.{settled, absorbed, insertStep, findStep, rule}
 use Rattle.rule.specs.Schedules.{one, steps, noneBusy}
 use Rattle.rule.proofs.Schedules.{all-idle}
 use Rattle.phases.specs.Promise.{Roomy, Rules, SameOrders}
+use Rattle.phases.proofs.Roomy.{room-by}
 use Rattle.determinism.proofs.Theorem.{one-end}
 use Rattle.state.specs.Model.{gateway}
 use Rattle.state.specs.Open.{openReply}
@@ -37,50 +40,66 @@ use Rattle.protocol.specs.IsWellFormed.{isWellFormed}
 use Rattle.protocol.specs.WellFormed.{Size}
 use Rattle.tables.specs.Calls.{countNumber, listCall, listAfter, listFront}
 use Rattle.tables.proofs.Theorem.{theorem as tables}
-use Rattle.history.specs.History.{order, turn, call, run, after}
+use Rattle.history.specs.History.{turn, call, run, after}
 use Rattle.history.proofs.Theorem.{keeps-table, one-table, two-turns}
-use Rattle.examples.specs.Forms.{emptyCells}
+use Rattle.examples.specs.Forms.{emptyCells, line}
 use Rattle.examples.specs.Corollaries.{turnsOf, rounds, sixPlaces}
-use Rattle.examples.specs.Lengths.{seven, oneLooks, twoLook, onePuts, twoPut, onePrice, twoPrices, oneInserts, twoInsert, third, OtherLengths}
+use Rattle.examples.specs.Orders.{oneLine}
+use Rattle.examples.specs.Lengths.{seven, oneLooks, twoLook, oneItems, onePuts, twoItems, twoPut, onePriceItems, onePrice, twoPriceItems, twoPrices}
+use Rattle.examples.specs.Lengths.{oneInserts, twoInsert, third, OtherLengths}
 use Rattle.examples.specs.Lengths.{emptied, alsoEmptied, holding, alsoHolding, replacing, looking}
-use Rattle.examples.proofs.Members.{apart, allIn, leastIn, same-prices, is-least, ownLeast, own-least, same-keys, same-orders}
+use Rattle.examples.proofs.Members.{apart, allIn, all-in, leastIn, same-prices, is-least, ownLeast, own-least, same-keys, same-orders}
 
 -- ---- openings
-seven-opens : (openReply gateway 3 1 seven ≡ Accepted) × (openReply gateway 3 2 seven ≡ Accepted) × (openReply gateway 1 1 seven ≡ Accepted)
-unfolding isSoundTable isSound all some clear dist wrap
+seven-opens : (openReply gateway 3 1 seven [] ≡ Accepted)
+    × (openReply gateway 3 2 seven [] ≡ Accepted)
+    × (openReply gateway 1 1 seven (oneLine 7 1 0) ≡ Accepted)
+unfolding lineFault linesFault descending into isSoundTable isSound all some clear dist wrap
 seven-opens = (refl, refl, refl)
 
-three-opens : (openReply gateway 1 1 (emptyCells 3) ≡ Accepted) × (openReply gateway 1 2 (emptyCells 3) ≡ Accepted)
-unfolding isSoundTable isSound all some clear dist wrap
+three-opens : (openReply gateway 1 1 (emptyCells 3) oneItems ≡ Accepted) × (openReply gateway 1 2 (emptyCells 3) twoItems ≡ Accepted)
+unfolding lineFault linesFault descending into isSoundTable isSound all some clear dist wrap
 three-opens = (refl, refl)
 
+three-open-prices : (openReply gateway 1 1 (emptyCells 3) onePriceItems ≡ Accepted) × (openReply gateway 1 2 (emptyCells 3) twoPriceItems ≡ Accepted)
+unfolding lineFault linesFault descending into isSoundTable isSound all some clear dist wrap
+three-open-prices = (refl, refl)
+
 -- ---- lists of calls are closed, and order the same keys
-looks-closed : (after gateway 3 1 seven oneLooks .closed ≡ true) × (after gateway 3 2 seven twoLook .closed ≡ true)
-unfolding turnsOf rounds run call isWellFormed isSoundTable isSound all some clear dist wrap count rule findStep
+looks-closed : (after gateway 3 1 seven [] oneLooks .closed ≡ true) × (after gateway 3 2 seven [] twoLook .closed ≡ true)
+unfolding turnsOf rounds run call isWellFormed isSoundTable isSound all some clear dist wrap rule findStep
 looks-closed = (refl, refl)
 
-looks-keys : SameOrders 3 label (after gateway 3 1 seven oneLooks .ordered) (after gateway 3 2 seven twoLook .ordered)
-unfolding allIn listed turnsOf rounds run call isWellFormed isSoundTable isSound all some clear dist wrap count rule findStep
-looks-keys = same-keys 3 (apart 3 1 tt) (after gateway 3 1 seven oneLooks .ordered) (after gateway 3 2 seven twoLook .ordered) tt tt
+looks-keys : SameOrders 3 label (after gateway 3 1 seven [] oneLooks .ordered) (after gateway 3 2 seven [] twoLook .ordered)
+unfolding allIn listed turnsOf rounds run call isWellFormed isSoundTable isSound all some clear dist wrap rule findStep
+looks-keys = same-keys 3 (apart 3 1 tt) (after gateway 3 1 seven [] oneLooks .ordered) (after gateway 3 2 seven [] twoLook .ordered) tt tt
 
-puts-closed : (after gateway 1 1 (emptyCells 3) onePuts .closed ≡ true) × (after gateway 1 2 (emptyCells 3) twoPut .closed ≡ true)
-unfolding turnsOf rounds run call isWellFormed isSoundTable isSound all some clear dist wrap count rule settled absorbed insertStep
+puts-closed : (after gateway 1 1 (emptyCells 3) oneItems onePuts .closed ≡ true) × (after gateway 1 2 (emptyCells 3) twoItems twoPut .closed ≡ true)
+unfolding turnsOf rounds run call isWellFormed
+    lineFault linesFault descending into isSoundTable isSound all some clear dist wrap rule settled absorbed insertStep
 puts-closed = (refl, refl)
 
-puts-keys : SameOrders 1 label (after gateway 1 1 (emptyCells 3) onePuts .ordered) (after gateway 1 2 (emptyCells 3) twoPut .ordered)
-unfolding leastIn listed lesser least turnsOf rounds run call isWellFormed isSoundTable isSound all some clear dist wrap count rule settled absorbed insertStep
-puts-keys = same-orders 1 (after gateway 1 1 (emptyCells 3) onePuts .ordered) (after gateway 1 2 (emptyCells 3) twoPut .ordered) tt tt
+puts-keys : SameOrders 1 label (after gateway 1 1 (emptyCells 3) oneItems onePuts .ordered) (after gateway 1 2 (emptyCells 3) twoItems twoPut .ordered)
+unfolding leastIn listed lesser least turnsOf rounds run call isWellFormed
+    lineFault linesFault descending into isSoundTable isSound all some clear dist wrap rule settled absorbed insertStep
+puts-keys = same-orders 1 (after gateway 1 1 (emptyCells 3) oneItems onePuts .ordered) (after gateway 1 2 (emptyCells 3) twoItems twoPut .ordered) tt tt
 
-prices-closed : (after gateway 1 1 (emptyCells 3) onePrice .closed ≡ true) × (after gateway 1 2 (emptyCells 3) twoPrices .closed ≡ true)
-unfolding turnsOf rounds run call isWellFormed isSoundTable isSound all some clear dist wrap count rule settled absorbed insertStep
+prices-closed : (after gateway 1 1 (emptyCells 3) onePriceItems onePrice .closed ≡ true)
+    × (after gateway 1 2 (emptyCells 3) twoPriceItems twoPrices .closed ≡ true)
+unfolding turnsOf rounds run call isWellFormed
+    lineFault linesFault descending into isSoundTable isSound all some clear dist wrap rule settled absorbed insertStep
 prices-closed = (refl, refl)
 
-prices-keys : SameOrders 1 label (after gateway 1 1 (emptyCells 3) onePrice .ordered) (after gateway 1 2 (emptyCells 3) twoPrices .ordered)
-unfolding leastIn listed lesser least turnsOf rounds run call isWellFormed isSoundTable isSound all some clear dist wrap count rule settled absorbed insertStep
-prices-keys = same-orders 1 (after gateway 1 1 (emptyCells 3) onePrice .ordered) (after gateway 1 2 (emptyCells 3) twoPrices .ordered) tt tt
+prices-keys : SameOrders 1 label (after gateway 1 1 (emptyCells 3) onePriceItems onePrice .ordered)
+    (after gateway 1 2 (emptyCells 3) twoPriceItems twoPrices .ordered)
+unfolding leastIn listed lesser least turnsOf rounds run call isWellFormed
+    lineFault linesFault descending into isSoundTable isSound all some clear dist wrap rule settled absorbed insertStep
+prices-keys =
+    same-orders 1 (after gateway 1 1 (emptyCells 3) onePriceItems onePrice .ordered)
+    (after gateway 1 2 (emptyCells 3) twoPriceItems twoPrices .ordered) tt tt
 
-none-ordered : after gateway 1 1 seven (turn 0 ∷ order 0 4 1 ∷ turn 0 ∷ []) .ordered ≡ []
-unfolding run call isWellFormed isSoundTable isSound all some clear dist wrap count
+none-ordered : after gateway 1 1 seven (oneLine 7 1 0) (turn 0 ∷ line 1 ∷ turn 0 ∷ []) .ordered ≡ []
+unfolding run call isWellFormed lineFault linesFault descending into isSoundTable isSound all some clear dist wrap
 none-ordered = refl
 
 -- ---- events
@@ -98,10 +117,20 @@ inserts-keys =
     same-orders 1 (events.after 1 4 1 label (modulo 4) (emptyCells 4) oneInserts .ordered)
     (events.after 1 4 2 label (modulo 4) (emptyCells 4) twoInsert .ordered) tt tt
 
--- two labels are fewer than four cells
+-- what is ordered is of two labels, which are fewer than four cells
+inserts-listed : (v : ℕ) → In v (events.after 1 4 1 label (modulo 4) (emptyCells 4) oneInserts .ordered) → In (label v) (1 ∷ 5 ∷ [])
+unfolding allIn listed steps events.run event accepts ordered stepped rule settled absorbed insertStep wrap count
+inserts-listed v i =
+    let xs = events.after 1 4 1 label (modulo 4) (emptyCells 4) oneInserts .ordered in
+    all-in (labels label xs) (1 ∷ 5 ∷ []) tt (label v) (in-labels label xs v i)
+
+two-fewer : size (labels label (emptyCells 4) ++ 1 ∷ 5 ∷ []) < 4
+unfolding descending into
+two-fewer = omega arith
+
 inserts-roomy : Roomy 4 label (emptyCells 4) (events.after 1 4 1 label (modulo 4) (emptyCells 4) oneInserts)
-unfolding descending into steps events.run event accepts ordered stepped rule settled absorbed insertStep wrap count
-inserts-roomy = omega arith
+inserts-roomy =
+    room-by 4 label (emptyCells 4) (1 ∷ 5 ∷ []) (events.after 1 4 1 label (modulo 4) (emptyCells 4) oneInserts) two-fewer inserts-listed
 
 -- ---- tables
 seven-sound : SoundTable 2 (modulo 2) seven
@@ -167,17 +196,18 @@ other-lengths =
     let lists = tables gateway gateway-proper seven sixPlaces in
     record {
       look-up =
-          one-table gateway gateway gateway-proper gateway-proper 3 1 2 seven (λ x. refl) (seven-opens .0) (seven-opens .1) oneLooks twoLook looks-keys
+          one-table gateway gateway gateway-proper gateway-proper 3 1 2 seven [] [] (λ x. refl) (seven-opens .0) (seven-opens .1) oneLooks twoLook looks-keys
           (looks-closed .0) (looks-closed .1);
       put-in =
-          one-table gateway gateway gateway-proper gateway-proper 1 1 2 (emptyCells 3) (λ x. refl) (three-opens .0) (three-opens .1) onePuts twoPut puts-keys
-          (puts-closed .0) (puts-closed .1);
+          one-table gateway gateway gateway-proper gateway-proper 1 1 2 (emptyCells 3) oneItems twoItems (λ x. refl) (three-opens .0) (three-opens .1)
+          onePuts twoPut puts-keys (puts-closed .0) (puts-closed .1);
       put-in-prices =
-          one-table gateway gateway gateway-proper gateway-proper 1 1 2 (emptyCells 3) (λ x. refl) (three-opens .0) (three-opens .1) onePrice twoPrices
-          prices-keys (prices-closed .0) (prices-closed .1);
+          one-table gateway gateway gateway-proper gateway-proper 1 1 2 (emptyCells 3) onePriceItems twoPriceItems (λ x. refl) (three-open-prices .0)
+          (three-open-prices .1) onePrice twoPrices prices-keys (prices-closed .0) (prices-closed .1);
       one-end =
           one-end 1 4 1 2 (inl refl) label (modulo 4) (rules 3) (emptyCells 4) four-empty-sound oneInserts twoInsert (λ _. inserts-roomy) inserts-keys
           (inserts-idle .0) (inserts-idle .1);
+      room = inserts-roomy;
       insert-turns =
           two-turns gateway replacing (third replacing) emptied alsoEmptied 0 2 (insert-pass .0) (insert-pass .1) refl refl refl insert-cell .replies;
       find-turns = two-turns gateway looking (third looking) holding alsoHolding 0 2 (find-pass .0) (find-pass .1) refl refl refl find-cell .replies;
@@ -186,5 +216,5 @@ other-lengths =
       count = lists .count-true (two-cells, sounds gateway seven .0 seven-sound) ∙ seven-size;
       listed = ap (λ (i : ℕ). getD (listAfter gateway seven sixPlaces) i 0) (sym none-before) ∙ lists .listed list-accepted 1 (apart 7 0 tt);
       front = ap (λ (i : ℕ). getD (listFront gateway seven sixPlaces) i 0) (sym none-before) ∙ lists .front list-accepted 1 (apart 7 0 tt);
-      kept = keeps-table gateway gateway-proper 1 1 seven (seven-opens .2) .no-orders (turn 0 ∷ order 0 4 1 ∷ turn 0 ∷ []) none-ordered;
+      kept = keeps-table gateway gateway-proper 1 1 seven (oneLine 7 1 0) (seven-opens .2) .no-orders (turn 0 ∷ line 1 ∷ turn 0 ∷ []) none-ordered;
     }

@@ -1,10 +1,9 @@
 -- What words of the promises mean, on lists that are written out.
 use mathlib.Core.Path.{_≡_, refl}
-use mathlib.Core.Logic.{_⊎_, inl, inr, ⊎-elim}
-use mathlib.Core.List.{List, [], _∷_}
-use Prim.Native.Nat.{ℕ, _<_}
+use mathlib.Core.Logic.{inl, inr, ⊎-elim}
+use mathlib.Core.List.{[], _∷_}
+use Prim.Native.Nat.{ℕ}
 use native.Mathlib.Omega.{arith}
-use lib.Dec.{T}
 use Rattle.layout.specs.Layout.{In, into, descending, listed}
 use Rattle.prices.specs.Contents.{label, price, content}
 use Rattle.prices.specs.Priced.{Least, lesser, least}
@@ -12,7 +11,9 @@ use Rattle.rule.specs.Events.{event, run, accepts, ordered}
 use Rattle.phases.specs.Promise.{Sold, SameOrders}
 use Rattle.examples.specs.Examples.{atPrices}
 use Rattle.examples.specs.Meanings.{Meanings}
-use Rattle.examples.proofs.Members.{leastIn, allIn, same-orders, same-keys, is-least}
+use Rattle.examples.proofs.Lending.{five-good, worker-earliest, blank-behind, blank-later, none-blank}
+use Rattle.examples.proofs.Lending.{four-fills, list-fills, seven-once, four-once, not-mixed, not-listed}
+use Rattle.examples.proofs.Members.{apart, leastIn, allIn, same-orders, same-keys, is-least}
 
 three : Sold label atPrices 3 7
 three = record { content = content 3 7; member = inr (inr (inr (inr (inl refl)))); is = refl; costs = refl }
@@ -53,4 +54,23 @@ meanings = record {
   wrong-label = λ r. four-sold (r .1 7 .0 (tt, refl));
   wrong-before = λ r. absurd (r .2 .1 7 .1 three .0);
   room = omega arith;
+  good = five-good 1 (omega arith);
+  good-dearest = record { key = apart 4294967295 0 tt; price = (omega arith, omega arith); worker = omega arith };
+  not-blank = λ g. g .key refl;
+  not-free = λ g. omega (arith, g .price .0);
+  not-too-dear = λ g. omega (arith, g .price .1);
+  not-workless = λ g. omega (arith, g .worker);
+  earliest = worker-earliest;
+  not-later = blank-later;
+  behind-good = blank-behind;
+  none-bad = none-blank;
+  fills = four-fills;
+  fills-alone = list-fills;
+  not-again = seven-once .0;
+  not-at-two-prices = seven-once .1;
+  not-twice = four-once .0;
+  not-zero = four-once .1;
+  of-line = record { line = 1; inside = omega arith; is = refl; costs = refl };
+  not-mixed = not-mixed;
+  not-listed = not-listed;
 }

@@ -5,18 +5,21 @@ use mathlib.Core.List.{List, [], _∷_, _++_}
 use Prim.Native.Nat.{ℕ, zero, suc, _*_, _≤_, _<_}
 use native.Mathlib.Nat.{zero-add, zero-lt-suc, mod-lt}
 use native.Mathlib.Omega.{arith}
-use borrow.Author.Tests.{le-ltb}
+use borrow.Author.Tests.{le-ltb, lt-leb, ne-eqb}
 use lib.Dec.{T, eqb, ltb, eqb→eq, T-not}
 use lib.ListN.{length, getD, take, drop, length-replicate}
+use Rattle.ring.proofs.Split.{by-eq}
 use Rattle.ring.proofs.Tests.{within-says}
 use Rattle.layout.specs.Home.{modulo}
-use Rattle.layout.specs.Layout.{descending, placeAll, layout}
+use Rattle.layout.specs.Layout.{descending, size, placeAll, layout}
 use Rattle.layout.specs.Sound.{Sound}
 use Rattle.layout.proofs.Theorem.{theorem as layouts}
 use Rattle.layout.proofs.Tests.{and-left, and-right}
 use Rattle.prices.specs.Contents.{label, cellOk, SoundTable, isSoundTable}
 use Rattle.prices.specs.Priced.{labels, pricedLayout}
 use Rattle.prices.proofs.Contents.{contents}
+use Rattle.orders.specs.Orders.{linesFault}
+use Rattle.orders.specs.declared.Order.{Order}
 use Rattle.words.specs.Words.{occupied, entriesOf, filled, group, wordOf, countOf}
 use Rattle.words.proofs.Places.{place-is, count-occupied}
 use Rattle.activities.specs.declared.Activity.{Activity}
@@ -28,13 +31,13 @@ use Rattle.rule.specs.declared.Answer.the-variants as answer
 use Rattle.rule.specs.Schedules.{sameTable, closesRight}
 use Rattle.rule.proofs.Schedules.{same-table, closes}
 use Rattle.state.specs.Model.{gateway, sizeOk}
-use Rattle.state.specs.Open.{openReply, openCall}
+use Rattle.state.specs.Open.{crowded, openReply, openCall}
 use Rattle.state.specs.Refusals.{replyNumber, if, firstOf}
 use Rattle.state.specs.declared.Phase.{Phase}
 use Rattle.state.specs.declared.Refusal.the-variants.{Size, ShortList}
 use Rattle.state.specs.declared.Reply.{Reply}
 use Rattle.state.specs.declared.Reply.the-variants.{Accepted, Refused}
-use Rattle.protocol.specs.Calls.{turnNumber, turnCall, turnTable}
+use Rattle.protocol.specs.Calls.{turnNumber, orderCall, turnCall, turnTable}
 use Rattle.protocol.specs.IsWellFormed.{isWellFormed}
 use Rattle.protocol.specs.WellFormed.{WellFormed}
 use Rattle.protocol.specs.declared.TurnReply.{TurnReply}
@@ -47,7 +50,7 @@ use Rattle.tables.specs.declared.Counted.the-variants as counted
 use Rattle.history.specs.History.{after}
 use Rattle.history.specs.History as history
 use Rattle.numbered.specs.Lists.{answersOf}
-use Rattle.examples.specs.Forms.{Example, laid, unsound, word, counting, listing, opening, empties, calling, tracing, refusing, bound, closing}
+use Rattle.examples.specs.Forms.{Example, laid, unsound, word, counting, listing, opening, ordering, empties, calling, tracing, refusing, bound, closing}
 use Rattle.examples.specs.Forms.{Told, emptyCells, alone, callsOf, answersTold, Spoilt, Unspoilt, Says, AllSay}
 
 is-true : (b : Bool) → T b → b ≡ true
@@ -102,7 +105,7 @@ sameWorkers [] (v ∷ vs) = false
 sameWorkers (w ∷ ws) [] = false
 sameWorkers (w ∷ ws) (v ∷ vs) = sameTable (codeOf (w .activity)) (codeOf (v .activity)) && sameWorkers ws vs
 
-same-activity : (a b : Activity) → T (sameTable (codeOf a) (codeOf b)) → a ≡ b
+pub same-activity : (a b : Activity) → T (sameTable (codeOf a) (codeOf b)) → a ≡ b
 same-activity a b p = sym (told-by-code a) ∙ ap activity-of (same-table (codeOf a) (codeOf b) p) ∙ told-by-code b
 
 same-workers : (ws vs : List Worker) → T (sameWorkers ws vs) → ws ≡ vs
@@ -117,14 +120,14 @@ same-workers (w ∷ ws) (v ∷ vs) p =
 
 unfoldable pub samePhase : Phase → Phase → Bool
 samePhase p q =
-    sameTable (p .kind ∷ p .length ∷ p .crew ∷ p .left ∷ []) (q .kind ∷ q .length ∷ q .crew ∷ q .left ∷ [])
+    sameTable (p .kind ∷ p .length ∷ p .crew ∷ []) (q .kind ∷ q .length ∷ q .crew ∷ [])
     && (sameBit (p .shut) (q .shut) && sameWorkers (p .workers) (q .workers))
 
 same-phase : (p q : Phase) → T (samePhase p q) → p ≡ q
 unfolding samePhase
 same-phase p q h =
-    let xs : List ℕ = p .kind ∷ p .length ∷ p .crew ∷ p .left ∷ [] in
-    let ys : List ℕ = q .kind ∷ q .length ∷ q .crew ∷ q .left ∷ [] in
+    let xs : List ℕ = p .kind ∷ p .length ∷ p .crew ∷ [] in
+    let ys : List ℕ = q .kind ∷ q .length ∷ q .crew ∷ [] in
     let e : xs ≡ ys = same-table xs ys (and-left (sameTable xs ys) _ h) in
     let rest = and-right (sameTable xs ys) (sameBit (p .shut) (q .shut) && sameWorkers (p .workers) (q .workers)) h in
     let shut : p .shut ≡ q .shut = same-bit (p .shut) (q .shut) (and-left (sameBit (p .shut) (q .shut)) _ rest) in
@@ -134,7 +137,6 @@ same-phase p q h =
       kind = getD (e i) 0 0;
       length = getD (e i) 1 0;
       crew = getD (e i) 2 0;
-      left = getD (e i) 3 0;
       shut = shut i;
       workers = workers i;
     }
@@ -216,10 +218,24 @@ blank-check : (n : ℕ) → checkCall gateway (emptyCells n) ≡ sized n
 blank-check zero = refl
 blank-check (suc n) = rw (blank-sound (suc n) (zero-lt-suc n), blank-length n)
 
-blank-open : (n k m : ℕ) → (1 ≤ k) × (k ≤ 3) → (1 ≤ m) × (m ≤ 16) → openReply gateway k m (emptyCells n) ≡ sized n
+-- without orders there is room
+blank-size : (n : ℕ) → size (labels label (emptyCells n) ++ []) ≡ 0
+unfolding descending
+blank-size zero = refl
+blank-size (suc n) = blank-size n
+
+blank-room : (n : ℕ) → crowded (emptyCells (suc n)) [] ≡ false
+blank-room n = lt-leb (length (emptyCells (suc n))) (size (labels label (emptyCells (suc n)) ++ [])) (omega (arith, blank-size (suc n), blank-length (suc n)))
+
+blank-opens : (n m : ℕ) → (1 ≤ m) × (m ≤ 16) → openReply gateway 1 m (emptyCells (suc n)) [] ≡ sized (suc n)
+unfolding linesFault
+blank-opens n m crew = rw (blank-sound (suc n) (zero-lt-suc n), within-says 1 16 m .1 crew, blank-room n, blank-length n)
+
+blank-open : (n k m : ℕ) → (1 ≤ k) × (k ≤ 3) → (1 ≤ m) × (m ≤ 16) → openReply gateway k m (emptyCells n) [] ≡ sized n
 blank-open zero k m kind crew = refl
-blank-open (suc n) k m kind crew =
-    rw (blank-sound (suc n) (zero-lt-suc n), within-says 1 16 m .1 crew, within-says 1 3 k .1 kind, blank-length n)
+blank-open (suc n) k m kind crew = by-eq k 1
+    (λ e. rw e (blank-opens n m crew))
+    (λ ne. rw (ne-eqb k 1 ne, blank-sound (suc n) (zero-lt-suc n), within-says 1 16 m .1 crew, within-says 1 3 k .1 kind, blank-length n))
 
 no-value : (r : Reply) → countValue (countedBy 0 r) ≡ 0
 no-value Accepted = refl
@@ -253,17 +269,22 @@ count-number c (Refused r) = refl
 
 -- ---- spoilt or not
 unspoilt : (p : Phase) → T (isWellFormed gateway p) → Unspoilt p
-unspoilt p h w v cents t =
-    let good : WellFormed gateway p = well-formed gateway p .0 (is-true (isWellFormed gateway p) h) in (
-      λ e. orders gateway p w v cents .answers .0 .0 e .1 good,
+unspoilt p h os i w v t =
+    let good : WellFormed gateway p = well-formed gateway p .0 (is-true (isWellFormed gateway p) h) in
+    let o = orders gateway p os i w v in (
+      λ e. by-eq (p .kind) 1 (λ is. o .inserts is .0 .0 e .1 good) (λ ne. o .others ne .0 .0 e .1 good),
       λ e. turns gateway p t w .answers .0 .0 e .1 good,
       λ e. closings gateway p .answers .0 .0 e .1 good,
     )
 
 spoilt : (p : Phase) → T (not (isWellFormed gateway p)) → Spoilt p
-spoilt p h w v cents t =
+spoilt p h os i w v t =
     let bad : WellFormed gateway p → ⊥ = λ g. T-not (isWellFormed gateway p) h (subst T (sym (well-formed gateway p .1 g)) tt) in
-    (orders gateway p w v cents .answers .0 .1 (tt, bad), turns gateway p t w .answers .0 .1 (tt, bad), closings gateway p .answers .0 .1 (tt, bad))
+    let o = orders gateway p os i w v in (
+      by-eq (p .kind) 1 (λ is. o .inserts is .0 .1 (tt, bad)) (λ ne. o .others ne .0 .1 (tt, bad)),
+      turns gateway p t w .answers .0 .1 (tt, bad),
+      closings gateway p .answers .0 .1 (tt, bad),
+    )
 
 -- ---- the test
 unfoldable pub passes : Example → Bool
@@ -275,11 +296,12 @@ passes (listing t out r c u front) =
     let a = lists t out (occupied t) in
     sameTable (countNumber a ∷ countValue a ∷ []) (r ∷ c ∷ [])
     && (sameTable (ifCounted a (filled t out) out) u && sameTable (ifCounted a (entriesOf t) []) front)
-passes (opening k m t r p) = let o = openCall gateway k m t in eqb (replyNumber (o .reply)) r && samePhase (o .phase) p
+passes (opening M k m t os r p) = let o = openCall M k m t os in eqb (replyNumber (o .reply)) r && samePhase (o .phase) p
+passes (ordering p os i w v r q) = let o = orderCall gateway p os i w v in eqb (replyNumber (o .reply)) r && samePhase (o .phase) q
 passes (empties n r) = eqb (replyNumber (sized n)) r
-passes (calling k m t cs i u) =
-    let s = after gateway k m t (callsOf cs) in
-    sameTable (replyNumber (openReply gateway k m t) ∷ answersOf gateway (callsOf cs) (history.opening gateway k m t)) (0 ∷ answersTold cs)
+passes (calling k m t os cs i u) =
+    let s = after gateway k m t os (callsOf cs) in
+    sameTable (replyNumber (openReply gateway k m t os) ∷ answersOf gateway os (callsOf cs) (history.opening gateway k m t os)) (0 ∷ answersTold cs)
     && (s .closed && sameTable (s .counted ∷ s .table) (i ∷ u))
 passes (tracing k t a r b u) =
     let o = turnCall gateway (alone k (length t) a) t 0 in
@@ -342,12 +364,17 @@ blank-says n r p =
       ),
     )
 
-calling-says : (k m : ℕ) (t : List ℕ) (cs : List Told) (i : ℕ) (u : List ℕ) → T (passes (calling k m t cs i u)) → Says (calling k m t cs i u)
+-- a call's number and phase state
+replied-says : (a r : ℕ) (p q : Phase) → T (eqb a r && samePhase p q) → (a ≡ r) × (p ≡ q)
+replied-says a r p q h = (eqb→eq a r (and-left (eqb a r) (samePhase p q) h), same-phase p q (and-right (eqb a r) (samePhase p q) h))
+
+calling-says : (k m : ℕ) (t : List ℕ) (os : List Order) (cs : List Told) (i : ℕ) (u : List ℕ) → T (passes (calling k m t os cs i u))
+    → Says (calling k m t os cs i u)
 unfolding passes
-calling-says k m t cs i u p =
-    let s = after gateway k m t (callsOf cs) in
-    let answers = answersOf gateway (callsOf cs) (history.opening gateway k m t) in
-    let opens = replyNumber (openReply gateway k m t) in
+calling-says k m t os cs i u p =
+    let s = after gateway k m t os (callsOf cs) in
+    let answers = answersOf gateway os (callsOf cs) (history.opening gateway k m t os) in
+    let opens = replyNumber (openReply gateway k m t os) in
     let one = sameTable (opens ∷ answers) (0 ∷ answersTold cs) in
     let three = sameTable (s .counted ∷ s .table) (i ∷ u) in
     let e = same-first opens 0 answers (answersTold cs) (and-left one (s .closed && three) p) in
@@ -387,13 +414,10 @@ passes-says (word t g w place) p =
     (eqb→eq (wordOf (group t g)) w (and-left one two p), place-is t g ∙ eqb→eq (occupied (take (64 * g) t)) place (and-right one two p))
 passes-says (counting t r c) p = counting-says t r c p
 passes-says (listing t out r c u front) p = listing-says t out r c u front p
-passes-says (opening k m t r p) h =
-    let o = openCall gateway k m t in
-    let one = eqb (replyNumber (o .reply)) r in
-    let two = samePhase (o .phase) p in
-    (eqb→eq (replyNumber (o .reply)) r (and-left one two h), same-phase (o .phase) p (and-right one two h))
+passes-says (opening M k m t os r p) h = let o = openCall M k m t os in replied-says (replyNumber (o .reply)) r (o .phase) p h
+passes-says (ordering p os i w v r q) h = let o = orderCall gateway p os i w v in replied-says (replyNumber (o .reply)) r (o .phase) q h
 passes-says (empties n r) p = blank-says n r p
-passes-says (calling k m t cs i u) p = calling-says k m t cs i u p
+passes-says (calling k m t os cs i u) p = calling-says k m t os cs i u p
 passes-says (tracing k t a r b u) p = tracing-says k t a r b u p
 passes-says (refusing p t w r) h = refusing-says p t w r h
 passes-says (bound p q) h =

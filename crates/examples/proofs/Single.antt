@@ -2,16 +2,22 @@
 use mathlib.Core.Path.{_≡_, refl, sym, ap, _∙_}
 use mathlib.Core.Logic.{_≢_, _⊎_, inl, inr, ⊎-elim}
 use mathlib.Core.Bool.{false}
-use mathlib.Core.List.{List, [], _∷_}
-use Prim.Native.Nat.{ℕ, _<_}
+use mathlib.Core.List.{List, [], _∷_, _++_}
+use Prim.Native.Nat.{ℕ, zero, suc, _≤_, _<_}
 use native.Mathlib.Omega.{arith}
-use lib.ListN.{getD}
-use Rattle.ring.specs.Counting.{count}
+use lib.ListN.{length, getD, replicate, length-replicate}
+use borrow.Author.Tests.{eqb-true, ne-eqb, leb-true}
 use Rattle.ring.specs.Ring.{wrap, dist}
 use Rattle.ring.proofs.Split.{by-eq}
 use Rattle.layout.specs.Home.{modulo}
-use Rattle.layout.specs.Sound.{vacant, all, some, clear, isSound}
-use Rattle.prices.specs.Contents.{content, isSoundTable}
+use Rattle.layout.specs.Layout.{In, into, descending, size}
+use Rattle.layout.specs.Sound.{all, some, clear, isSound}
+use Rattle.layout.proofs.Sets.{in-append, subset-size}
+use Rattle.prices.specs.Contents.{label, content, isSoundTable}
+use Rattle.prices.specs.Priced.{labels}
+use Rattle.prices.proofs.Contents.{contents}
+use Rattle.orders.specs.Orders.{orderWith, orderKeys, lineFault, linesFault}
+use Rattle.orders.specs.declared.Order.{Order}
 use Rattle.activities.specs.declared.Activity.the-variants.{Reading, Replacing, WalkingBack}
 use Rattle.rule.specs.declared.Answer.the-variants.{WentOn, Price}
 use Rattle.rule.specs.Rule.{findStep, deleteStep, rule}
@@ -21,63 +27,157 @@ use Rattle.state.specs.Open.{openCall}
 use Rattle.state.specs.Refusals.{replyNumber}
 use Rattle.protocol.specs.Bars.{doing}
 use Rattle.protocol.specs.Calls.{turnNumber, withWorker, closeCall, orderCall, turnCall, turnTable}
+use Rattle.protocol.specs.Cases.{Decides}
 use Rattle.protocol.specs.IsWellFormed.{isWellFormed}
-use Rattle.protocol.specs.Promise.{Made, opened, ordered as madeByOrder, turned, closed, Resting, Starts, Replaces}
+use Rattle.protocol.specs.Lines.{Priced, Mispriced, Earliest, Fills}
+use Rattle.protocol.specs.Promise.{Made, opened, ordered as madeByOrder, turned, closed, Soundness, Resting, lineOrderCases, Starts, Replaces}
 use Rattle.protocol.specs.Split.{oneTurn, oneTable, SplitTurn, SplitOrder}
-use Rattle.protocol.specs.WellFormed.{WellFormed}
+use Rattle.protocol.specs.WellFormed.{Size, Crew, WellFormed}
 use Rattle.protocol.specs.declared.Moved.{Moved}
 use Rattle.protocol.specs.declared.TurnReply.the-variants.{Answered}
 use Rattle.protocol.proofs.Keeping.{places, gateway-never-spoilt}
+use Rattle.protocol.proofs.Lines.{blank-first, price-first, worker-first, fills-says}
+use Rattle.protocol.proofs.Soundness.{sounds}
 use Rattle.protocol.proofs.Split.{splits}
 use Rattle.protocol.proofs.Theorem.{well-formed, opens, orders, turns, closes}
 use Rattle.examples.specs.Forms.{emptyCells, worker}
-use Rattle.examples.specs.Examples.{four, atPrices}
-use Rattle.examples.specs.Corollaries.{fewWorkers, manyWorkers, altered, overwritten, overpriced, justOpened, puttingIn, repricing, meeting, emptying, lookingUp}
+use Rattle.examples.specs.Examples.{four, atPrices, sheetItems}
+use Rattle.examples.specs.Orders.{oneLine, wrongLines}
+use Rattle.examples.specs.Corollaries.{fewWorkers, manyWorkers, altered, overwritten, overpriced, justOpened, firstLine, workerBeforeBlank}
+use Rattle.examples.specs.Corollaries.{puttingIn, repricing, meeting, emptying, lookingUp}
 use Rattle.examples.specs.Corollaries.{madeOnOthers, CallCorollaries}
+use Rattle.examples.proofs.Lending.{worker-earliest, four-fills, seven-once}
 use Rattle.examples.proofs.Members.{apart}
 
--- ---- openings, orders and closes
-opened-number : replyNumber (openCall gateway 1 2 (emptyCells 5) .reply) ≡ 0
-unfolding isSoundTable isSound all some clear dist wrap
+-- ---- openings
+opened-number : replyNumber (openCall gateway 1 2 (emptyCells 5) sheetItems .reply) ≡ 0
+unfolding lineFault linesFault descending into isSoundTable isSound all some clear dist wrap
 opened-number = refl
 
-four-opened : replyNumber (openCall gateway 2 2 four .reply) ≡ 0
-unfolding isSoundTable isSound all some clear dist wrap
-four-opened = refl
-
-not-opened : replyNumber (openCall gateway 4 1 four .reply) ≢ 0
+not-opened : replyNumber (openCall gateway 4 1 four wrongLines .reply) ≢ 0
 unfolding isSoundTable isSound all some clear dist wrap
 not-opened z = omega arith
 
 rests : Resting gateway 1 5 2 false justOpened
-rests = opens gateway 1 2 (emptyCells 5) .accepted opened-number
+rests = opens gateway 1 2 (emptyCells 5) sheetItems .accepted opened-number
 
-five-vacant : vacant (emptyCells 5) ≡ 5
-unfolding count
-five-vacant = refl
+-- a line that decides gives its own number
+module _ (m : ℕ) (os : List Order) (r : ℕ) (e : linesFault m os ≡ r) where
+  not-blank : r ≢ 7 → Earliest m os (λ (o : Order). o .key ≡ 0) → ⊥
+  not-blank ne h = ne (sym e ∙ eqb-true (linesFault m os) 7 (blank-first m os .1 h))
 
-four-left : justOpened .left ≡ 4
-four-left = let e = opens gateway 1 2 (emptyCells 5) .insert-left opened-number refl in omega (arith, e, five-vacant)
+  not-priceless : r ≢ 14 → Earliest m os (λ (o : Order). (o .key ≢ 0) × Mispriced (o .price)) → ⊥
+  not-priceless ne h = ne (sym e ∙ eqb-true (linesFault m os) 14 (price-first m os .1 h))
 
--- the order of 3 at price 7 to worker 0
-order-number : replyNumber (orderCall gateway justOpened 0 3 7 .reply) ≡ 0
-unfolding isWellFormed isSoundTable isSound all some clear dist wrap count
+  not-workless : r ≢ 6 → Earliest m os (λ (o : Order). (o .key ≢ 0) × Priced (o .price) × (m ≤ o .worker)) → ⊥
+  not-workless ne h = ne (sym e ∙ eqb-true (linesFault m os) 6 (worker-first m os .1 h))
+
+-- on a table that opens, with good lines: the labels alone decide
+module _ (m : ℕ) (t : List ℕ) (os : List Order) (cells : Size gateway (length t)) (crew : Crew gateway m) (few : length os ≤ 65536)
+    (sound : Soundness gateway t) (good : linesFault m os ≡ 0) where
+  fits : (Fills t os → ⊥) → replyNumber (openCall gateway 1 m t os .reply) ≡ 0
+  fits fewer =
+      let (_, (_, (_, (_, (_, (_, (_, (_, (_, none))))))))) = opens gateway 1 m t os .inserts refl in
+      let a = not-blank m os 0 good (λ z. omega arith) in
+      let b = not-priceless m os 0 good (λ z. omega arith) in
+      let c = not-workless m os 0 good (λ z. omega arith) in
+      none .1 (((((((((tt, cells), crew), (omega arith, omega arith)), few), sound), a), b), c), fewer)
+
+  overflows : Fills t os → replyNumber (openCall gateway 1 m t os .reply) ≡ 9
+  overflows fills =
+      let (_, (_, (_, (_, (_, (_, (_, (_, (nine, _))))))))) = opens gateway 1 m t os .inserts refl in
+      let a = not-blank m os 0 good (λ z. omega arith) in
+      let b = not-priceless m os 0 good (λ z. omega arith) in
+      let c = not-workless m os 0 good (λ z. omega arith) in
+      nine .1 (((((((((tt, cells), crew), (omega arith, omega arith)), few), sound), a), b), c), fills)
+
+-- 2 cells with {7}, and five empty cells
+seven-sound : Soundness gateway (ones (0 ∷ 7 ∷ []))
+unfolding isSoundTable isSound all some clear dist wrap
+seven-sound = sounds gateway (ones (0 ∷ 7 ∷ [])) .0 (contents .test 2 (modulo 2) (ones (0 ∷ 7 ∷ [])) .0 tt)
+
+five-sound : Soundness gateway (emptyCells 5)
+unfolding isSoundTable isSound all some clear dist wrap
+five-sound = sounds gateway (emptyCells 5) .0 (contents .test 5 (modulo 5) (emptyCells 5) .0 tt)
+
+good-line : (l : ℕ) → l ≢ 0 → linesFault 1 (oneLine l 1 0) ≡ 0
+unfolding lineFault linesFault
+good-line l nz = rw (ne-eqb l 0 nz)
+
+seven-fits : replyNumber (openCall gateway 1 1 (ones (0 ∷ 7 ∷ [])) (oneLine 7 1 0) .reply) ≡ 0
+seven-fits =
+    fits 1 (ones (0 ∷ 7 ∷ [])) (oneLine 7 1 0) (omega arith, omega arith) (omega arith, omega arith) (omega arith) seven-sound (good-line 7 (apart 7 0 tt))
+    (seven-once .0)
+
+four-overflows : replyNumber (openCall gateway 1 1 (ones (0 ∷ 7 ∷ [])) (oneLine 4 1 0) .reply) ≡ 9
+four-overflows =
+    overflows 1 (ones (0 ∷ 7 ∷ [])) (oneLine 4 1 0) (omega arith, omega arith) (omega arith, omega arith) (omega arith) seven-sound (good-line 4 (apart 4 0 tt))
+    four-fills
+
+-- a worker that the crew lacks, in the first line
+worker-lacks : linesFault 2 workerBeforeBlank ≡ 6
+unfolding lineFault linesFault
+worker-lacks = refl
+
+worker-decides : replyNumber (openCall gateway 1 2 (emptyCells 5) workerBeforeBlank .reply) ≡ 6
+worker-decides =
+    let os = workerBeforeBlank in
+    let (_, (_, (_, (_, (_, (_, (_, (six, _)))))))) = opens gateway 1 2 (emptyCells 5) os .inserts refl in
+    let a = not-blank 2 os 6 worker-lacks (λ z. omega arith) in
+    let b = not-priceless 2 os 6 worker-lacks (λ z. omega arith) in
+    six .1
+    ((((((((tt, (omega arith, omega arith)), (omega arith, omega arith)), (omega arith, omega arith)), omega arith), five-sound), a), b), worker-earliest)
+
+-- many lines, all alike
+all-good : (n : ℕ) → linesFault 2 (replicate n (orderWith 3 1 0)) ≡ 0
+unfolding lineFault linesFault
+all-good zero = refl
+all-good (suc n) = all-good n
+
+only-three : (n y : ℕ) → In y (orderKeys (replicate n (orderWith 3 1 0))) → y ≡ 3
+only-three zero y i = absurd i
+only-three (suc n) y i = ⊎-elim (λ e. e) (only-three n y) i
+
+no-label : (n y : ℕ) → In y (labels label (emptyCells n)) → y ≡ 0
+no-label zero y i = absurd i
+no-label (suc n) y i = ⊎-elim (λ e. e) (no-label n y) i
+
+one-label : (n : ℕ) → size (labels label (emptyCells 5) ++ orderKeys (replicate n (orderWith 3 1 0))) ≤ 1
+unfolding descending into
+one-label n =
+    let xs = labels label (emptyCells 5) in
+    let ys = orderKeys (replicate n (orderWith 3 1 0)) in
+    subset-size (xs ++ ys) (3 ∷ []) (λ y nz i. ⊎-elim (λ j. absurd (nz (no-label 5 y j))) (λ j. inl (only-three n y j)) (in-append xs ys y .0 i))
+
+many-fit : (n : ℕ) → n ≤ 65536 → replyNumber (openCall gateway 1 2 (emptyCells 5) (replicate n (orderWith 3 1 0)) .reply) ≡ 0
+many-fit n l =
+    let os = replicate n (orderWith 3 1 0) in
+    let xs = labels label (emptyCells 5) ++ orderKeys os in
+    fits 2 (emptyCells 5) os (omega arith, omega arith) (omega arith, omega arith) (rw (length-replicate n (orderWith 3 1 0)) l) five-sound (all-good n) (λ f.
+    let m : 5 ≤ size xs = leb-true 5 (size xs) (fills-says (emptyCells 5) os .1 f) in omega (arith, m, one-label n))
+
+too-many : (n : ℕ) → 65536 < n → (o : Order) → replyNumber (openCall gateway 1 2 (emptyCells 5) (replicate n o) .reply) ≡ 16
+too-many n l o =
+    let (_, (_, (_, (sixteen, _)))) = opens gateway 1 2 (emptyCells 5) (replicate n o) .inserts refl in
+    let long : 65536 < length (replicate n o) = rw (length-replicate n o) l in
+    sixteen .1 ((((tt, (omega arith, omega arith)), (omega arith, omega arith)), (omega arith, omega arith)), long)
+
+-- ---- orders and closes
+-- of label 3 at price 7 to worker 0, by an altered list
+order-number : replyNumber (firstLine (oneLine 3 7 0) .reply) ≡ 0
+unfolding isWellFormed lineFault linesFault descending into isSoundTable isSound all some clear dist wrap
 order-number = refl
 
-started : Starts gateway justOpened 0 3 7 (orderCall gateway justOpened 0 3 7 .phase)
-started = orders gateway justOpened 0 3 7 .accepted order-number
+started : Starts gateway justOpened 0 3 7 (firstLine (oneLine 3 7 0) .phase)
+started = orders gateway justOpened (oneLine 3 7 0) 0 0 0 .insert-accepted (rests .kind) order-number
 
-few-order : replyNumber (orderCall gateway fewWorkers 0 9 7 .reply) ≡ 0
+few-order : replyNumber (orderCall gateway fewWorkers [] 7 0 9 .reply) ≡ 0
 unfolding isWellFormed
 few-order = refl
 
-other-order : replyNumber (orderCall gateway manyWorkers 1 3 7 .reply) ≡ 0
-unfolding isWellFormed
-other-order = refl
-
 -- worker 0 of the record just opened may be given orders
 opened-formed : WellFormed gateway justOpened
-opened-formed = gateway-never-spoilt justOpened (opened 1 2 (emptyCells 5))
+opened-formed = gateway-never-spoilt justOpened (opened 1 2 (emptyCells 5) sheetItems)
 
 first-worker : 0 < justOpened .crew
 first-worker = rw (rests .crew) (omega arith)
@@ -86,25 +186,43 @@ few-formed : WellFormed gateway fewWorkers
 unfolding isWellFormed
 few-formed = well-formed gateway fewWorkers .0 refl
 
-mispriced : (cents : ℕ) → (cents ≡ 0) ⊎ (9999999 < cents) → replyNumber (orderCall gateway justOpened 0 3 cents .reply) ≡ 14
+-- one line for worker 0 with this label and price
+module _ (v cents : ℕ) where
+  line-decides : Decides (replyNumber (firstLine (oneLine v cents 0) .reply)) (lineOrderCases gateway justOpened (oneLine v cents 0) 0)
+  line-decides = orders gateway justOpened (oneLine v cents 0) 0 0 0 .inserts (rests .kind)
+
+mispriced : (cents : ℕ) → (cents ≡ 0) ⊎ (9999999 < cents) → replyNumber (firstLine (oneLine 3 cents 0) .reply) ≡ 14
 mispriced cents wrong =
-    let (_, (_, (_, (_, (_, (fourteen, _)))))) = orders gateway justOpened 0 3 cents .answers in
-    fourteen .1 ((((((tt, opened-formed), rests .shut), first-worker), rests .rest 0), apart 3 0 tt), (rests .kind, wrong))
+    let (_, (_, (_, (_, (_, (_, (fourteen, _))))))) = line-decides 3 cents in
+    fourteen .1 (((((((tt, opened-formed), rests .shut), omega arith), first-worker), rests .rest 0), apart 3 0 tt), wrong)
 
-dearest : replyNumber (orderCall gateway justOpened 0 3 9999999 .reply) ≡ 0
+dearest : replyNumber (firstLine (oneLine 3 9999999 0) .reply) ≡ 0
 dearest =
-    let (_, (_, (_, (_, (_, (_, (_, none))))))) = orders gateway justOpened 0 3 9999999 .answers in
-    let used : (justOpened .kind ≡ 1) × (justOpened .left ≡ 0) → ⊥ = λ (_, z). omega (arith, z, four-left) in
-    none .1 (((((((tt, opened-formed), rests .shut), first-worker), rests .rest 0), apart 3 0 tt), λ _. (omega arith, omega arith)), used)
+    let (_, (_, (_, (_, (_, (_, (_, none))))))) = line-decides 3 9999999 in
+    none .1 (((((((tt, opened-formed), rests .shut), omega arith), first-worker), rests .rest 0), apart 3 0 tt), (omega arith, omega arith))
 
-unread : replyNumber (orderCall gateway fewWorkers 0 9 0 .reply) ≡ 0
+blank-line : replyNumber (firstLine (oneLine 0 0 0) .reply) ≡ 7
+blank-line =
+    let (_, (_, (_, (_, (_, (seven, _)))))) = line-decides 0 0 in
+    seven .1 ((((((tt, opened-formed), rests .shut), omega arith), first-worker), rests .rest 0), refl)
+
+no-worker : replyNumber (firstLine (oneLine 0 0 2) .reply) ≡ 6
+no-worker =
+    let (_, (_, (_, (six, _)))) = orders gateway justOpened (oneLine 0 0 2) 0 0 0 .inserts (rests .kind) in
+    six .1 ((((tt, opened-formed), rests .shut), omega arith), rw (rests .crew) (omega arith))
+
+no-line : replyNumber (orderCall gateway justOpened sheetItems 4 0 3 .reply) ≡ 15
+no-line =
+    let (_, (_, (fifteen, _))) = orders gateway justOpened sheetItems 4 0 3 .inserts (rests .kind) in
+    fifteen .1 (((tt, opened-formed), rests .shut), omega arith)
+
+unread : replyNumber (orderCall gateway fewWorkers [] 7 0 9 .reply) ≡ 0
 unread =
-    let (_, (_, (_, (_, (_, (_, (_, none))))))) = orders gateway fewWorkers 0 9 0 .answers in
-    let used : (fewWorkers .kind ≡ 1) × (fewWorkers .left ≡ 0) → ⊥ = λ (z, _). apart 2 1 tt z in
-    none .1 (((((((tt, few-formed), refl), omega arith), refl), apart 9 0 tt), λ z. absurd (apart 2 1 tt z)), used)
+    let (_, (_, (_, (_, (_, none))))) = orders gateway fewWorkers [] 7 0 9 .others (λ z. apart 2 1 tt z) in
+    none .1 (((((tt, few-formed), refl), omega arith), refl), apart 9 0 tt)
 
 close-number : replyNumber (closeCall gateway justOpened .reply) ≡ 0
-unfolding isWellFormed isSoundTable isSound all some clear dist wrap count
+unfolding isWellFormed lineFault linesFault descending into isSoundTable isSound all some clear dist wrap
 close-number = refl
 
 -- turns
@@ -145,13 +263,15 @@ unfolding isWellFormed rule findStep
 said-price = refl
 
 made : Made gateway madeOnOthers
-made = closed _ (turned _ (madeByOrder _ (turned _ (madeByOrder _ (opened 1 2 (emptyCells 5)) 0 3 1) four 0) 1 8 1) altered 1)
+made =
+    let first = madeByOrder _ (opened 1 2 (emptyCells 5) sheetItems) sheetItems 0 0 0 in
+    closed _ (turned _ (madeByOrder _ (turned _ first four 0) (oneLine 8 9 1) 0 0 0) altered 1)
 
 split-turn : SplitTurn gateway fewWorkers four 1
 split-turn = splits .turn gateway fewWorkers few-formed refl four refl 1 (omega arith)
 
-split-order : SplitOrder gateway fewWorkers 0 9 7
-split-order = splits .order gateway fewWorkers few-formed refl 0 (omega arith) 9 7
+split-order : SplitOrder gateway fewWorkers [] 0 0 9
+split-order = splits .order gateway fewWorkers few-formed refl [] 0 0 9 refl (omega arith)
 
 -- the worker alone
 one-turn : oneTurn gateway 2 5 four (worker (Replacing (one 8) 4 0 (one 4))) ≡ record { worker = worker (WalkingBack (one 4) 0); reply = Answered WentOn }
@@ -164,7 +284,7 @@ one-table-left = refl
 
 pub call-corollaries : CallCorollaries
 call-corollaries =
-    let refused = opens gateway 4 1 four in
+    let refused = opens gateway 4 1 four wrongLines in
     let ended = closes gateway justOpened .accepted close-number in
     let takes = turns gateway fewWorkers four 1 in
     let taken = turns gateway manyWorkers altered 7 in
@@ -172,26 +292,30 @@ call-corollaries =
       opened-crew = rests .crew;
       opened-cells = rests .cells;
       opened-idle = rests .rest 1;
-      opened-left = four-left;
-      other-left = opens gateway 2 2 four .other-left four-opened (λ z. omega arith);
       refused-shut = refused .refused not-opened .shut;
       refused-cells = refused .refused not-opened .cells;
-      refused-left = refused .refused-left not-opened;
-      starts-priced =
-          started .starts-priced (rests .kind) (rw (rests .places) (omega arith)) ∙ ap (λ (n : ℕ). Reading (content 3 7) (modulo n 3)) (rests .cells);
-      starts = orders gateway fewWorkers 0 9 7 .accepted few-order .starts (λ z. apart 2 1 tt z) (omega arith);
-      takes-one = let e = started .takes-one (rests .kind) in omega (arith, e, four-left);
-      takes-none = orders gateway manyWorkers 1 3 7 .accepted other-order .takes-none (λ z. omega arith);
+      room = seven-fits;
+      full = four-overflows;
+      earliest = worker-decides;
+      longest = many-fit;
+      too-long = too-many;
+      lines = opens gateway 1 2 (emptyCells 5) sheetItems .lines refl opened-number;
+      list-unread = opens gateway 2 2 four [] .unread (λ z. apart 2 1 tt z) wrongLines;
+      starts-priced = started .starts (rw (rests .places) (omega arith)) ∙ ap (λ (n : ℕ). Reading (content 3 7) (modulo n 3)) (rests .cells);
+      starts = orders gateway fewWorkers [] 7 0 9 .other-accepted (λ z. apart 2 1 tt z) few-order .starts (omega arith);
       order-leaves = started .others .others 1 (λ z. omega arith) ∙ rests .rest 1;
+      no-line = no-line;
+      no-worker = no-worker;
       free = mispriced 0 (inl refl);
       too-dear = mispriced 10000000 (inr (omega arith));
-      blank-first =
-          let (_, (_, (_, (_, (seven, _))))) = orders gateway justOpened 0 0 0 .answers in
-          seven .1 (((((tt, opened-formed), rests .shut), first-worker), rests .rest 0), refl);
+      blank-first = blank-line;
       dearest = dearest;
+      mispriced-keeps =
+          orders gateway justOpened (oneLine 3 0 0) 0 0 0 .refused (λ z. let e = mispriced 0 (inl refl) in omega (arith, z, e));
+      insert-unread = orders gateway justOpened sheetItems 1 0 13 .insert-unread (rests .kind) 9 0;
       unread = unread;
-      unread-order = orders gateway fewWorkers 0 9 7 .unread (λ z. apart 2 1 tt z) 0;
-      mispriced-keeps = orders gateway justOpened 0 3 0 .refused (λ z. let e = mispriced 0 (inl refl) in omega (arith, z, e));
+      other-unread = orders gateway fewWorkers [] 7 0 9 .other-unread (λ z. apart 2 1 tt z) wrongLines 0;
+      never-full = λ os i w v. orders gateway justOpened os i w v .never-full;
       inserts = turns gateway puttingIn (ones (0 ∷ 0 ∷ 0 ∷ 8 ∷ 3 ∷ [])) 0 .inserts puts-number refl (one 13) 3 3 (one 8) refl refl;
       reprices = turns gateway repricing atPrices 0 .inserts reprices-number refl (content 8 2) 3 3 (content 8 9) refl refl;
       deletes = takes .deletes takes-number refl (one 8) 4 0 (one 4) refl refl (apart 4 0 tt);
@@ -208,7 +332,6 @@ call-corollaries =
       not-no = λ e. turns gateway (lookingUp 13 3) four 0 .says-no e 3 refl refl;
       idle = turns gateway fewWorkers four 0 .idle refl .0;
       turn-crew = taken .others .frame .crew;
-      turn-left = taken .left;
       turn-open = taken .others .shut;
       turn-leaves = taken .others .others 0 (λ z. omega arith);
       closes = ended .shut;

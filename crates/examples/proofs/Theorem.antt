@@ -7,6 +7,7 @@ use Rattle.layout.specs.Layout.{into, descending, listed, firstEmpty, place, pl
 use Rattle.layout.specs.Sound.{all, some, clear, isSound}
 use Rattle.prices.specs.Contents.{isSoundTable}
 use Rattle.prices.specs.Priced.{lesser, least, withoutLabels}
+use Rattle.orders.specs.Orders.{lineFault, linesFault, ordersOf}
 use Rattle.rule.specs.Rule.{settled, absorbed, insertStep, findStep, fits, narrow, deleteStep, rule}
 use Rattle.rule.specs.Schedules.{Schedule, sameTable, schedules, AllClose}
 use Rattle.rule.proofs.Schedules.{all-close}
@@ -17,6 +18,7 @@ use Rattle.examples.specs.Forms.{Example, closing, AllSay}
 use Rattle.examples.specs.Traces.{idleTurns, insertTurns, findTurns, deleteTurns, insertPrices, findPrices, deletePrices, traces}
 use Rattle.examples.specs.Bounds.{numberBounds, crewBounds, kindBounds, cellBounds, keyBounds, priceBounds, bounds}
 use Rattle.examples.specs.Limits.{lengths, openings, refusedTurns, listings, limits}
+use Rattle.examples.specs.Orders.{openingSequence, lineFaults, fillings, lineOrders, alteredLists, handedOrders, orders}
 use Rattle.examples.specs.Examples.{tables, ons, phases, prices, ExamplesPromise}
 use Rattle.examples.proofs.Passing.{sameBit, codeOf, sameWorkers, samePhase, answerCode, answers, passes, allPass, all-say}
 
@@ -26,13 +28,13 @@ unfolding allPass passes tables sameTable layout placeAll place firstEmpty desce
 computed = tt
 
 phases-computed : T (allPass phases)
-unfolding allPass passes phases ons sameTable answerOf answersOf run call
-    isWellFormed isSoundTable isSound all some clear dist wrap prev count rule settled absorbed insertStep findStep deleteStep fits narrow
+unfolding allPass passes phases ons sameTable answerOf answersOf run call lineFault linesFault descending into
+    isWellFormed isSoundTable isSound all some clear dist wrap prev rule settled absorbed insertStep findStep deleteStep fits narrow
 phases-computed = tt
 
 prices-computed : T (allPass prices)
-unfolding allPass passes prices ons sameTable answerOf answersOf run call
-    isWellFormed isSoundTable isSound all some clear dist wrap prev count rule settled absorbed insertStep findStep deleteStep fits narrow
+unfolding allPass passes prices ons sameTable answerOf answersOf run call lineFault linesFault descending into
+    isWellFormed isSoundTable isSound all some clear dist wrap prev rule settled absorbed insertStep findStep deleteStep fits narrow
 prices-computed = tt
 
 traces-computed : T (allPass traces)
@@ -46,8 +48,13 @@ bounds-computed = tt
 
 limits-computed : T (allPass limits)
 unfolding allPass passes lengths openings refusedTurns listings sameTable sameBit codeOf sameWorkers samePhase
-    isWellFormed isSoundTable isSound all some clear dist wrap count
+    isWellFormed isSoundTable isSound all some clear dist wrap count linesFault descending into
 limits-computed = tt
+
+orders-computed : T (allPass orders)
+unfolding allPass passes openingSequence lineFaults fillings lineOrders alteredLists handedOrders sameTable sameBit codeOf sameWorkers samePhase
+    lineFault linesFault ordersOf descending into isWellFormed isSoundTable isSound all some clear dist wrap
+orders-computed = tt
 
 -- ---- with the schedules
 both : (es es′ : List Example) → AllSay es → AllSay es′ → AllSay (es ++ es′)
@@ -66,5 +73,8 @@ theorem =
     let five : AllSay (tables ++ phases ++ prices ++ traces ++ bounds) =
     both (tables ++ phases ++ prices ++ traces) bounds four (all-say bounds bounds-computed)
     in
-    both (tables ++ phases ++ prices ++ traces ++ bounds ++ limits) (map closing schedules)
-    (both (tables ++ phases ++ prices ++ traces ++ bounds) limits five (all-say limits limits-computed)) (all-closing schedules all-close)
+    let six : AllSay (tables ++ phases ++ prices ++ traces ++ bounds ++ limits) =
+    both (tables ++ phases ++ prices ++ traces ++ bounds) limits five (all-say limits limits-computed)
+    in
+    both (tables ++ phases ++ prices ++ traces ++ bounds ++ limits ++ orders) (map closing schedules)
+    (both (tables ++ phases ++ prices ++ traces ++ bounds ++ limits) orders six (all-say orders orders-computed)) (all-closing schedules all-close)

@@ -10,23 +10,20 @@ use Rattle.examples.specs.Forms.{Example, bound, phase, allIdle, busyOne
 use Rattle.examples.specs.Traces.{atOne}
 
 -- an open phase whose workers are all idle
-abbrev pub resting : (k n m left : ℕ) → Phase
-resting k n m left = phase k n m left false allIdle
+abbrev pub resting : (k n m : ℕ) → Phase
+resting k n m = phase k n m false allIdle
 
--- its kind, length or worker count is outside the limits above, its put-in orders left aren't fewer than the length
+-- its kind, length or worker count is outside the limits above
 unfoldable pub numberBounds : List Example
 numberBounds =
-    bound (resting 1 5 2 0) (resting 0 5 2 0)
-    ∷ bound (resting 3 5 2 0) (resting 4 5 2 0)
-    ∷ bound (resting 2 2 2 0) (resting 2 1 2 0)
-    ∷ bound (resting 2 8192 2 0) (resting 2 8193 2 0)
-    ∷ bound (resting 2 5 1 0) (resting 2 5 0 0)
-    ∷ bound (resting 2 5 16 0) (resting 2 5 17 0)
-    ∷ bound (resting 1 5 2 4) (resting 1 5 2 5)
-    ∷ bound (resting 2 5 2 4) (resting 2 5 2 5)
-    ∷ bound (resting 3 8192 2 8191) (resting 3 8192 2 8192)
+    bound (resting 1 5 2) (resting 0 5 2)
+    ∷ bound (resting 3 5 2) (resting 4 5 2)
+    ∷ bound (resting 2 2 2) (resting 2 1 2)
+    ∷ bound (resting 2 8192 2) (resting 2 8193 2)
+    ∷ bound (resting 2 5 1) (resting 2 5 0)
+    ∷ bound (resting 2 5 16) (resting 2 5 17)
     -- shut or not
-    ∷ bound (phase 1 5 2 4 true allIdle) (phase 1 5 2 5 true allIdle)
+    ∷ bound (phase 1 5 16 true allIdle) (phase 1 5 17 true allIdle)
     ∷ []
 
 -- a worker whose activity's numbers are labels, at price 1

@@ -8,20 +8,21 @@ use lib.ListN.{length, set, replicate}
 use Rattle.layout.specs.Home.{modulo}
 use Rattle.prices.specs.Contents.{label, SoundTable}
 use Rattle.prices.specs.Priced.{pricedLayout}
+use Rattle.orders.specs.declared.Order.{Order}
 use Rattle.words.specs.Words.{group, wordOf, placeOf}
 use Rattle.activities.specs.declared.Activity.{Activity}
 use Rattle.activities.specs.declared.Activity.the-variants as activity
 use Rattle.activities.specs.declared.Worker.{Worker}
 use Rattle.rule.specs.declared.Answer.{Answer}
 use Rattle.rule.specs.Schedules.{Schedule, Closes}
-use Rattle.state.specs.Model.{gateway}
+use Rattle.state.specs.Model.{Model, gateway}
 use Rattle.state.specs.Open.{openReply, openCall}
 use Rattle.state.specs.Refusals.{replyNumber}
 use Rattle.state.specs.declared.Phase.{Phase}
 use Rattle.protocol.specs.Calls.{turnNumber, closeCall, orderCall, turnCall, turnTable}
 use Rattle.protocol.specs.declared.TurnReply.the-variants.{Answered}
 use Rattle.tables.specs.Calls.{countNumber, countValue, checkCall, countCall, listCall, listAfter, listFront}
-use Rattle.history.specs.History.{Call, turn, after}
+use Rattle.history.specs.History.{Call, order, turn, after}
 use Rattle.history.specs.History as history
 use Rattle.numbered.specs.Lists.{answersOf}
 use Rattle.numbered.specs.Numbers as numbers
@@ -31,9 +32,9 @@ abbrev pub emptyCells : ℕ → List ℕ
 emptyCells n = replicate n 0
 
 -- ---- phase states, written out
--- of kind k with n cells, m workers and so many insert operations (put-in orders) left
-abbrev pub phase : (k n m left : ℕ) → Bool → List Worker → Phase
-phase k n m left shut ws = record { kind = k; length = n; crew = m; left = left; shut = shut; workers = ws }
+-- of kind k with n cells and m workers
+abbrev pub phase : (k n m : ℕ) → Bool → List Worker → Phase
+phase k n m shut ws = record { kind = k; length = n; crew = m; shut = shut; workers = ws }
 
 abbrev pub worker : Activity → Worker
 worker a = record { activity = a }
@@ -44,7 +45,7 @@ allIdle = replicate 16 (worker activity.Idle)
 
 -- an open phase of m workers, of which worker w is doing a and the others are idle
 abbrev pub busyOne : (k n m w : ℕ) → Activity → Phase
-busyOne k n m w a = phase k n m 0 false (set allIdle w (worker a))
+busyOne k n m w a = phase k n m false (set allIdle w (worker a))
 
 -- the same for one worker alone
 abbrev pub alone : (k n : ℕ) → Activity → Phase
@@ -52,7 +53,14 @@ alone k n a = busyOne k n 1 0 a
 
 -- what a refused opening hands back: a shut record of kind 3, length 2 and one worker, all idle
 abbrev pub handedBack : Phase
-handedBack = phase 3 2 1 0 true allIdle
+handedBack = phase 3 2 1 true allIdle
+
+-- ---- orders: by line i of the list, which insert phases (put-in shifts) read, and of key v for worker w, which the others read
+abbrev pub line : ℕ → Call
+line i = order i 0 0
+
+abbrev pub handed : (w v : ℕ) → Call
+handed w v = order 0 w v
 
 -- ---- a call with the number of its answer (numbered/specs/Numbers)
 pub record Told : Type 0 where
@@ -97,13 +105,15 @@ pub data Example : Type 0 where
   counting : (table : List ℕ) (number c : ℕ) → Example
   -- listing into a lent list answers with this number and count, and leaves this list and this front part
   listing : (table out : List ℕ) (number c : ℕ) (after front : List ℕ) → Example
-  -- an opening of kind k with m workers answers with this number, and gives this phase state
-  opening : (k m : ℕ) (table : List ℕ) (number : ℕ) (p : Phase) → Example
-  -- openings, check, count and list on n empty cells answer with this number; the count gives 0, and the list stays as it is
+  -- in the model M an opening of kind k with m workers, lent these orders, answers with this number, and gives this phase state
+  opening : (M : Model) (k m : ℕ) (table : List ℕ) (orders : List Order) (number : ℕ) (p : Phase) → Example
+  -- an order call on the phase state p, lent these orders, by line i or for worker w and key v, answers with this number, and gives the phase state q
+  ordering : (p : Phase) (orders : List Order) (i w v number : ℕ) (q : Phase) → Example
+  -- openings without orders, check, count and list on n empty cells answer with this number; the count gives 0, and the list stays as it is
   empties : (n number : ℕ) → Example
-  -- from an opening of kind k with m workers on the table, each call is answered as told; so many turns are counted; in the end the phase is
-  -- closed, and this table is left
-  calling : (k m : ℕ) (table : List ℕ) (calls : List Told) (counted : ℕ) (closed : List ℕ) → Example
+  -- from an opening of kind k with m workers on the table, lent these orders, each call is answered as told; so many turns are counted; in the end the
+  -- phase is closed, and this table is left
+  calling : (k m : ℕ) (table : List ℕ) (orders : List Order) (calls : List Told) (counted : ℕ) (closed : List ℕ) → Example
   -- one turn of a worker that is doing a, alone in a phase of kind k: it answers r and leaves the worker doing b, and this table
   tracing : (k : ℕ) (table : List ℕ) (a : Activity) (r : Answer) (b : Activity) (after : List ℕ) → Example
   -- a turn of worker w is refused with this number, and phase state and table keep their contents
@@ -114,14 +124,18 @@ pub data Example : Type 0 where
   closing : (s : Schedule) → Example
 
 -- ---- what an example says
--- the calls on p are refused with 13, whatever worker, key, price and table they get; and in no case
+-- the calls on p are refused with 13, whatever list, line, worker, key and table they get; and in no case
 abbrev pub Spoilt : Phase → Type 0
-Spoilt p = (w v cents : ℕ) (t : List ℕ)
-    → (replyNumber (orderCall gateway p w v cents .reply) ≡ 13) × (turnNumber (turnCall gateway p t w .reply) ≡ 13) × (replyNumber (closeCall gateway p .reply) ≡ 13)
+Spoilt p = (os : List Order) (i w v : ℕ) (t : List ℕ)
+    → (replyNumber (orderCall gateway p os i w v .reply) ≡ 13)
+    × (turnNumber (turnCall gateway p t w .reply) ≡ 13)
+    × (replyNumber (closeCall gateway p .reply) ≡ 13)
 
 abbrev pub Unspoilt : Phase → Type 0
-Unspoilt p = (w v cents : ℕ) (t : List ℕ)
-    → (replyNumber (orderCall gateway p w v cents .reply) ≢ 13) × (turnNumber (turnCall gateway p t w .reply) ≢ 13) × (replyNumber (closeCall gateway p .reply) ≢ 13)
+Unspoilt p = (os : List Order) (i w v : ℕ) (t : List ℕ)
+    → (replyNumber (orderCall gateway p os i w v .reply) ≢ 13)
+    × (turnNumber (turnCall gateway p t w .reply) ≢ 13)
+    × (replyNumber (closeCall gateway p .reply) ≢ 13)
 
 abbrev pub callsOf : List Told → List Call
 callsOf cs = map (λ (c : Told). c .call) cs
@@ -139,19 +153,20 @@ Says (listing t out r c u front) =
     × (countValue (listCall gateway t out) ≡ c)
     × (listAfter gateway t out ≡ u)
     × (listFront gateway t out ≡ front)
-Says (opening k m t r p) = (replyNumber (openCall gateway k m t .reply) ≡ r) × (openCall gateway k m t .phase ≡ p)
+Says (opening M k m t os r p) = (replyNumber (openCall M k m t os .reply) ≡ r) × (openCall M k m t os .phase ≡ p)
+Says (ordering p os i w v r q) = (replyNumber (orderCall gateway p os i w v .reply) ≡ r) × (orderCall gateway p os i w v .phase ≡ q)
 Says (empties n r) =
-    ((k m : ℕ) → (1 ≤ k) × (k ≤ 3) → (1 ≤ m) × (m ≤ 16) → replyNumber (openReply gateway k m (emptyCells n)) ≡ r)
+    ((k m : ℕ) → (1 ≤ k) × (k ≤ 3) → (1 ≤ m) × (m ≤ 16) → replyNumber (openReply gateway k m (emptyCells n) []) ≡ r)
     × (replyNumber (checkCall gateway (emptyCells n)) ≡ r)
     × (countNumber (countCall gateway (emptyCells n)) ≡ r)
     × (countValue (countCall gateway (emptyCells n)) ≡ 0)
     × ((out : List ℕ) → (countNumber (listCall gateway (emptyCells n) out) ≡ r) × (listAfter gateway (emptyCells n) out ≡ out))
-Says (calling k m t cs i u) =
-    (replyNumber (openReply gateway k m t) ≡ 0)
-    × (answersOf gateway (callsOf cs) (history.opening gateway k m t) ≡ answersTold cs)
-    × (after gateway k m t (callsOf cs) .counted ≡ i)
-    × (after gateway k m t (callsOf cs) .closed ≡ true)
-    × (after gateway k m t (callsOf cs) .table ≡ u)
+Says (calling k m t os cs i u) =
+    (replyNumber (openReply gateway k m t os) ≡ 0)
+    × (answersOf gateway os (callsOf cs) (history.opening gateway k m t os) ≡ answersTold cs)
+    × (after gateway k m t os (callsOf cs) .counted ≡ i)
+    × (after gateway k m t os (callsOf cs) .closed ≡ true)
+    × (after gateway k m t os (callsOf cs) .table ≡ u)
 Says (tracing k t a r b u) =
     (turnCall gateway (alone k (length t) a) t 0 ≡ record { phase = alone k (length t) b; reply = Answered r })
     × (turnTable gateway (alone k (length t) a) t 0 ≡ u)

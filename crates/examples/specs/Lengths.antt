@@ -7,43 +7,59 @@ use Prim.Native.Nat.{ℕ}
 use Rattle.layout.specs.Home.{modulo}
 use Rattle.prices.specs.Contents.{label, content}
 use Rattle.prices.specs.Priced.{pricedLayout}
+use Rattle.orders.specs.Orders.{orderWith}
+use Rattle.orders.specs.declared.Order.{Order}
 use Rattle.activities.specs.declared.Activity.the-variants.{Reading, Replacing}
 use Rattle.rule.specs.Events.{Event}
 use Rattle.rule.specs.Events as events
 use Rattle.rule.specs.Schedules.{one, ones, steps}
+use Rattle.phases.specs.Promise.{Roomy}
 use Rattle.state.specs.Model.{gateway}
 use Rattle.state.specs.Refusals.{replyNumber}
 use Rattle.state.specs.declared.Phase.{Phase}
 use Rattle.protocol.specs.Calls.{turnCall}
 use Rattle.tables.specs.Calls.{countValue, checkCall, countCall, listAfter, listFront}
 use Rattle.history.specs.History.{Call, order, turn, close, after}
-use Rattle.examples.specs.Forms.{emptyCells, phase, worker, allIdle, alone}
+use Rattle.examples.specs.Forms.{emptyCells, phase, worker, allIdle, alone, line, handed}
 use Rattle.examples.specs.Corollaries.{rounds, sixPlaces}
+use Rattle.examples.specs.Orders.{oneLine}
 
 -- document 01's table of 2 cells with {7}
 abbrev pub seven : List ℕ
 seven = ones (0 ∷ 7 ∷ [])
 
--- ---- 7 and 4 looked up in it, by one worker and by two; the prices are not read
+-- ---- 7 and 4 looked up in it, by one worker and by two; the line numbers are not read
 abbrev pub oneLooks : List Call
-oneLooks = order 0 7 0 ∷ rounds 2 (0 ∷ []) (order 0 4 9 ∷ rounds 2 (0 ∷ []) (close ∷ []))
+oneLooks = handed 0 7 ∷ rounds 2 (0 ∷ []) (order 9 0 4 ∷ rounds 2 (0 ∷ []) (close ∷ []))
 
 abbrev pub twoLook : List Call
-twoLook = order 1 4 1 ∷ order 0 7 5 ∷ rounds 2 (1 ∷ 0 ∷ []) (close ∷ [])
+twoLook = handed 1 4 ∷ order 5 0 7 ∷ rounds 2 (1 ∷ 0 ∷ []) (close ∷ [])
 
 -- ---- 3 and 6 put into 3 cells
+abbrev pub oneItems : List Order
+oneItems = orderWith 3 1 0 ∷ orderWith 6 1 0 ∷ []
+
 abbrev pub onePuts : List Call
-onePuts = order 0 3 1 ∷ rounds 2 (0 ∷ []) (order 0 6 1 ∷ rounds 4 (0 ∷ []) (close ∷ []))
+onePuts = line 0 ∷ rounds 2 (0 ∷ []) (line 1 ∷ rounds 4 (0 ∷ []) (close ∷ []))
+
+abbrev pub twoItems : List Order
+twoItems = orderWith 6 1 0 ∷ orderWith 3 1 1 ∷ []
 
 abbrev pub twoPut : List Call
-twoPut = order 0 6 1 ∷ order 1 3 1 ∷ rounds 8 (1 ∷ 0 ∷ []) (close ∷ [])
+twoPut = line 0 ∷ line 1 ∷ rounds 8 (1 ∷ 0 ∷ []) (close ∷ [])
 
--- ---- 6 put into 3 cells at price 4, once or also at a higher one
+-- ---- 6 put into 3 cells at price 4, once or also at a higher one; the one list has another label that is not ordered
+abbrev pub onePriceItems : List Order
+onePriceItems = orderWith 6 4 0 ∷ orderWith 1 1 0 ∷ []
+
 abbrev pub onePrice : List Call
-onePrice = order 0 6 4 ∷ rounds 2 (0 ∷ []) (close ∷ [])
+onePrice = line 0 ∷ rounds 2 (0 ∷ []) (close ∷ [])
+
+abbrev pub twoPriceItems : List Order
+twoPriceItems = orderWith 6 8 0 ∷ orderWith 6 4 1 ∷ []
 
 abbrev pub twoPrices : List Call
-twoPrices = order 0 6 8 ∷ order 1 6 4 ∷ rounds 5 (0 ∷ 1 ∷ []) (close ∷ [])
+twoPrices = line 0 ∷ line 1 ∷ rounds 5 (0 ∷ 1 ∷ []) (close ∷ [])
 
 -- ---- 1 and 5 put into 4 cells, as events, with a higher price for 1 in the one list
 abbrev pub oneInserts : List Event
@@ -54,7 +70,7 @@ twoInsert = events.order 0 (one 5) ∷ events.order 1 (content 1 3) ∷ steps 3 
 
 -- ---- worker 2 of three, doing what the one worker of another phase does
 abbrev pub third : Phase → Phase
-third p = phase (p .kind) (p .length) 3 0 false (set allIdle 2 (getD (p .workers) 0 (worker (Reading (one 1) 1))))
+third p = phase (p .kind) (p .length) 3 false (set allIdle 2 (getD (p .workers) 0 (worker (Reading (one 1) 1))))
 
 -- tables of 3 cells: alike in cell 1 alone, where an empty cell is replaced, or label 4 is read
 abbrev pub emptied : List ℕ
@@ -76,10 +92,12 @@ abbrev pub looking : Phase
 looking = alone 3 3 (Reading (content 4 0) 1)
 
 pub record OtherLengths : Type 0 where
-  pub look-up : after gateway 3 1 seven oneLooks .table ≡ after gateway 3 2 seven twoLook .table
-  pub put-in : after gateway 1 1 (emptyCells 3) onePuts .table ≡ after gateway 1 2 (emptyCells 3) twoPut .table
-  pub put-in-prices : after gateway 1 1 (emptyCells 3) onePrice .table ≡ after gateway 1 2 (emptyCells 3) twoPrices .table
+  pub look-up : after gateway 3 1 seven [] oneLooks .table ≡ after gateway 3 2 seven [] twoLook .table
+  pub put-in : after gateway 1 1 (emptyCells 3) oneItems onePuts .table ≡ after gateway 1 2 (emptyCells 3) twoItems twoPut .table
+  pub put-in-prices : after gateway 1 1 (emptyCells 3) onePriceItems onePrice .table ≡ after gateway 1 2 (emptyCells 3) twoPriceItems twoPrices .table
   pub one-end : events.after 1 4 1 label (modulo 4) (emptyCells 4) oneInserts .table ≡ events.after 1 4 2 label (modulo 4) (emptyCells 4) twoInsert .table
+  -- labels ordered from a list that together with the table has fewer than there are cells leave room
+  pub room : Roomy 4 label (emptyCells 4) (events.after 1 4 1 label (modulo 4) (emptyCells 4) oneInserts)
   -- two turns of put-in shifts, and of look-up shifts, answer alike
   pub insert-turns : turnCall gateway replacing emptied 0 .reply ≡ turnCall gateway (third replacing) alsoEmptied 2 .reply
   pub find-turns : turnCall gateway looking holding 0 .reply ≡ turnCall gateway (third looking) alsoHolding 2 .reply
@@ -88,4 +106,4 @@ pub record OtherLengths : Type 0 where
   pub count : countValue (countCall gateway seven) ≡ 1
   pub listed : getD (listAfter gateway seven sixPlaces) 0 0 ≡ one 7
   pub front : getD (listFront gateway seven sixPlaces) 0 0 ≡ one 7
-  pub kept : after gateway 1 1 seven (turn 0 ∷ order 0 4 1 ∷ turn 0 ∷ []) .table ≡ seven
+  pub kept : after gateway 1 1 seven (oneLine 7 1 0) (turn 0 ∷ line 1 ∷ turn 0 ∷ []) .table ≡ seven

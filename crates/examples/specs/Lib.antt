@@ -1,3 +1,4 @@
+pub mod Altered
 pub mod Bounds
 pub mod Corollaries
 pub mod Examples
@@ -5,4 +6,5 @@ pub mod Forms
 pub mod Lengths
 pub mod Limits
 pub mod Meanings
+pub mod Orders
 pub mod Traces

@@ -1,4 +1,4 @@
--- Openings, check, count and list at the limits; refusals in their sequence.
+-- Openings without orders, check, count and list at the limits; refusals in their sequence. (Openings with orders: Orders.)
 use mathlib.Core.Bool.{true, false}
 use mathlib.Core.List.{List, [], _∷_, _++_}
 use Prim.Native.Nat.{ℕ}
@@ -6,15 +6,16 @@ use lib.ListN.{length, replicate}
 use Rattle.prices.specs.Contents.{content}
 use Rattle.activities.specs.declared.Activity.the-variants.{Reading}
 use Rattle.rule.specs.Schedules.{one, ones}
+use Rattle.state.specs.Model.{gateway}
 use Rattle.examples.specs.Forms.{Example, word, counting, listing, opening, empties, refusing, phase, allIdle, handedBack, alone}
 
--- an accepted opening, with so many insert operations (put-in orders) left
-abbrev pub opens : (k m : ℕ) (table : List ℕ) (left : ℕ) → Example
-opens k m t left = opening k m t 0 (phase k (length t) m left false allIdle)
+-- an accepted opening, without orders
+abbrev pub opens : (k m : ℕ) (table : List ℕ) → Example
+opens k m t = opening gateway k m t [] 0 (phase k (length t) m false allIdle)
 
 -- a refused one
 abbrev pub barred : (k m : ℕ) (table : List ℕ) (number : ℕ) → Example
-barred k m t r = opening k m t r handedBack
+barred k m t r = opening gateway k m t [] r handedBack
 
 -- lengths 1 and 8,193 get 1; 2 and 8,192 open
 unfoldable pub lengths : List Example
@@ -24,14 +25,14 @@ unfoldable pub openings : List Example
 openings =
     -- counts 0 and 17 get 2; 1 and 16 open
     barred 2 0 (ones (0 ∷ 7 ∷ [])) 2
-    ∷ opens 2 1 (ones (0 ∷ 7 ∷ [])) 0
-    ∷ opens 2 16 (ones (0 ∷ 7 ∷ [])) 0
+    ∷ opens 2 1 (ones (0 ∷ 7 ∷ []))
+    ∷ opens 2 16 (ones (0 ∷ 7 ∷ []))
     ∷ barred 2 17 (ones (0 ∷ 7 ∷ [])) 2
-    -- kinds 1, 2 and 3 open; the put-in orders left are the empty cells less one, outside put-in shifts 0
+    -- kinds 1, 2 and 3 open
     ∷ barred 0 3 (ones (0 ∷ 6 ∷ 0 ∷ 0 ∷ 9 ∷ [])) 3
-    ∷ opens 1 3 (ones (0 ∷ 6 ∷ 0 ∷ 0 ∷ 9 ∷ [])) 2
-    ∷ opens 2 3 (ones (0 ∷ 6 ∷ 0 ∷ 0 ∷ 9 ∷ [])) 0
-    ∷ opens 3 3 (ones (0 ∷ 6 ∷ 0 ∷ 0 ∷ 9 ∷ [])) 0
+    ∷ opens 1 3 (ones (0 ∷ 6 ∷ 0 ∷ 0 ∷ 9 ∷ []))
+    ∷ opens 2 3 (ones (0 ∷ 6 ∷ 0 ∷ 0 ∷ 9 ∷ []))
+    ∷ opens 3 3 (ones (0 ∷ 6 ∷ 0 ∷ 0 ∷ 9 ∷ []))
     ∷ barred 4 3 (ones (0 ∷ 6 ∷ 0 ∷ 0 ∷ 9 ∷ [])) 3
     -- first to apply wins: 1, 2, 3, 4
     ∷ barred 0 0 (ones (3 ∷ [])) 1
@@ -48,10 +49,10 @@ refusedTurns =
     ∷ refusing (alone 2 5 (Reading (one 3) 3)) [] 0 5
     ∷ refusing (alone 2 5 (Reading (one 3) 3)) (ones (0 ∷ 0 ∷ 0 ∷ 3 ∷ [])) 1 5
     ∷ refusing (alone 2 5 (Reading (one 3) 3)) (ones (0 ∷ 0 ∷ 0 ∷ 3 ∷ 0 ∷ [])) 1 6
-    ∷ refusing (phase 2 5 15 0 false allIdle) (ones (0 ∷ 0 ∷ 0 ∷ 3 ∷ 0 ∷ [])) 15 6
-    ∷ refusing (phase 2 5 15 0 true allIdle) (ones (0 ∷ 0 ∷ 0 ∷ 3 ∷ 0 ∷ [])) 0 11
-    ∷ refusing (phase 2 5 15 0 true allIdle) (ones (0 ∷ 0 ∷ 0 ∷ 3 ∷ [])) 16 11
-    ∷ refusing (phase 2 5 15 5 true allIdle) (ones (0 ∷ 0 ∷ 0 ∷ 3 ∷ [])) 16 13
+    ∷ refusing (phase 2 5 15 false allIdle) (ones (0 ∷ 0 ∷ 0 ∷ 3 ∷ 0 ∷ [])) 15 6
+    ∷ refusing (phase 2 5 15 true allIdle) (ones (0 ∷ 0 ∷ 0 ∷ 3 ∷ 0 ∷ [])) 0 11
+    ∷ refusing (phase 2 5 15 true allIdle) (ones (0 ∷ 0 ∷ 0 ∷ 3 ∷ [])) 16 11
+    ∷ refusing (phase 2 5 17 true allIdle) (ones (0 ∷ 0 ∷ 0 ∷ 3 ∷ [])) 16 13
     ∷ []
 
 -- ---- check, count and list
@@ -112,7 +113,7 @@ listings =
     ∷ barred 1 1 (0 ∷ content 7 0 ∷ []) 4
     ∷ barred 2 1 (0 ∷ content 7 10000000 ∷ []) 4
     ∷ barred 3 1 (0 ∷ 7 ∷ []) 4
-    ∷ opens 1 1 (0 ∷ 0 ∷ content 5 9999999 ∷ []) 1
+    ∷ opens 1 1 (0 ∷ 0 ∷ content 5 9999999 ∷ [])
     ∷ []
 
 abbrev pub limits : List Example

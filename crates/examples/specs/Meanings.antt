@@ -1,11 +1,21 @@
 -- What words of the promises mean, on lists that are written out: a premise that asks for more, or a conclusion that says less, would be noticed here.
+use mathlib.Core.Path.{_≡_}
+use mathlib.Core.Logic.{_≢_}
 use mathlib.Core.Bool.{true, false}
-use mathlib.Core.List.{List, [], _∷_}
+use mathlib.Core.List.{[], _∷_}
+use Prim.Native.Nat.{_≤_}
 use Rattle.layout.specs.Home.{modulo}
 use Rattle.prices.specs.Contents.{label, content}
-use Rattle.rule.specs.Events.{Said, after, order}
+use Rattle.orders.specs.Orders.{orderWith}
+use Rattle.orders.specs.declared.Order.{Order}
+use Rattle.rule.specs.Events.{after, order}
+use Rattle.rule.specs.Schedules.{ones}
 use Rattle.phases.specs.Promise.{Right, Roomy, SameOrders}
+use Rattle.protocol.specs.Lines.{Priced, Good, Earliest, Fills}
+use Rattle.history.specs.Promise.{OfLine}
 use Rattle.examples.specs.Examples.{atPrices}
+use Rattle.examples.specs.Corollaries.{priceItems, workerBeforeBlank}
+use Rattle.examples.specs.Orders.{oneLine, atOnes}
 
 pub record Meanings : Type 0 where
   -- equal least ordered prices: a higher price besides plays no part, another least one does; outside put-in shifts no price does
@@ -20,3 +30,26 @@ pub record Meanings : Type 0 where
       (record { wanted = content 8 0; found = true; price = 9 } ∷ record { wanted = content 3 0; found = false; price = 0 } ∷ []) → ⊥
   -- room: each label is counted once, at however many prices
   pub room : Roomy 2 label (0 ∷ 0 ∷ []) (after 1 2 2 label (modulo 2) (0 ∷ 0 ∷ []) (order 0 (content 8 5) ∷ order 1 (content 8 3) ∷ []))
+  -- a good line: a label, a price from 1 to 9,999,999, a worker below the count
+  pub good : Good 2 (orderWith 5 1 1)
+  pub good-dearest : Good 2 (orderWith 4294967295 9999999 0)
+  pub not-blank : Good 2 (orderWith 0 1 1) → ⊥
+  pub not-free : Good 2 (orderWith 5 0 1) → ⊥
+  pub not-too-dear : Good 2 (orderWith 5 10000000 1) → ⊥
+  pub not-workless : Good 2 (orderWith 5 1 2) → ⊥
+  -- the earliest line that is not good: a worker in line 0 before the label in line 1; behind good lines as well
+  pub earliest : Earliest 2 workerBeforeBlank (λ (o : Order). (o .key ≢ 0) × Priced (o .price) × (2 ≤ o .worker))
+  pub not-later : Earliest 2 workerBeforeBlank (λ (o : Order). o .key ≡ 0) → ⊥
+  pub behind-good : Earliest 2 (orderWith 5 1 1 ∷ orderWith 0 1 0 ∷ []) (λ (o : Order). o .key ≡ 0)
+  pub none-bad : Earliest 2 (orderWith 5 1 1 ∷ orderWith 6 1 0 ∷ []) (λ (o : Order). o .key ≡ 0) → ⊥
+  -- too many labels: those of table and list, each counted once, at however many prices; 0 is no label
+  pub fills : Fills (ones (0 ∷ 7 ∷ [])) (oneLine 4 1 0)
+  pub fills-alone : Fills (0 ∷ 0 ∷ []) (atOnes (4 ∷ 7 ∷ []))
+  pub not-again : Fills (ones (0 ∷ 7 ∷ [])) (oneLine 7 1 0) → ⊥
+  pub not-at-two-prices : Fills (ones (0 ∷ 7 ∷ [])) (orderWith 7 9 0 ∷ orderWith 7 1 1 ∷ []) → ⊥
+  pub not-twice : Fills (0 ∷ 0 ∷ []) (orderWith 4 1 0 ∷ orderWith 4 3 1 ∷ []) → ⊥
+  pub not-zero : Fills (0 ∷ 0 ∷ []) (atOnes (4 ∷ 0 ∷ [])) → ⊥
+  -- of a line: the label and the price of one and the same line
+  pub of-line : OfLine priceItems (content 8 3)
+  pub not-mixed : OfLine priceItems (content 8 7) → ⊥
+  pub not-listed : OfLine priceItems (content 4 5) → ⊥

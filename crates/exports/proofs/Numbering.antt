@@ -2,12 +2,14 @@
 use mathlib.Core.Path.{_≡_, ap, _∙_}
 use mathlib.Core.List.{List}
 use Prim.Native.Nat.{ℕ}
+use Rattle.orders.specs.declared.Order.{Order}
 use Rattle.state.specs.Model.{Model}
 use Rattle.state.specs.declared.Replied.{Replied}
 use Rattle.numbered.specs.Numbers.{replyAnswer}
 use Rattle.numbered.specs.Batch.{Ran}
 use Rattle.exports.specs.Numbers.{RunNumbers}
 
-pub numbered : {M : Model} {k m : ℕ} {t ops workers keys prices out : List ℕ} {ran : Replied} {t′ out′ : List ℕ} {r : ℕ} → r ≡ replyAnswer (ran .reply)
-    → Ran M k m t ops workers keys prices out ran t′ out′ → RunNumbers M k m t ops workers keys prices out r t′ out′
+pub numbered : {M : Model} {k m : ℕ} {t : List ℕ} {os : List Order} {ops lines workers keys out : List ℕ} {ran : Replied} {t′ out′ : List ℕ} {r : ℕ}
+    → r ≡ replyAnswer (ran .reply)
+    → Ran M k m t os ops lines workers keys out ran t′ out′ → RunNumbers M k m t os ops lines workers keys out r t′ out′
 numbered is ran = record { reply = is ∙ ap replyAnswer (ran .reply); table = ran .gives .table; answers = ran .gives .answers }

@@ -3,6 +3,7 @@ use mathlib.Core.Path.{_≡_}
 use mathlib.Core.List.{List, _++_}
 use Prim.Native.Nat.{ℕ, _+_, _^_, _<_}
 use lib.ListN.{length, drop}
+use Rattle.orders.specs.declared.Order.{Order}
 use Rattle.state.specs.Model.{Model, gateway}
 use Rattle.state.specs.Open.{openReply}
 use Rattle.state.specs.Refusals.{numberOf}
@@ -10,7 +11,7 @@ use Rattle.state.specs.declared.Refusal.{Refusal}
 use Rattle.tables.specs.Calls.{countCall, listCall}
 use Rattle.tables.specs.declared.Counted.{Counted}
 use Rattle.tables.specs.declared.Counted.the-variants as counted
-use Rattle.history.specs.History.{opening, after}
+use Rattle.history.specs.History.{Call, opening, after}
 use Rattle.numbered.specs.Numbers.{refusalAnswer, replyAnswer}
 use Rattle.numbered.specs.Lists.{answersOf}
 use Rattle.numbered.specs.Batch.{dealt}
@@ -27,10 +28,13 @@ pub record CountsPromise : Type 0 where
   pub count : (t : List ℕ) (c : ℕ) → countCall gateway t ≡ counted.Keys c → c < 2 ^ 32
   pub list : (t out : List ℕ) (c : ℕ) → listCall gateway t out ≡ counted.Keys c → c < 2 ^ 32
 
-module _ (M : Model) (k m : ℕ) (t ops workers keys prices out : List ℕ) where
+-- an opening with the list of orders os, and the calls
+module _ (M : Model) (k m : ℕ) (t : List ℕ) (os : List Order) (ops lines workers keys out : List ℕ) where
+  abbrev calls : List Call
+  calls = dealt M k m t os ops lines workers keys out
+
   -- the number of the opening's answer, the table after the calls, and the list lent for the answers, in which the places behind them keep their contents
   pub record RunNumbers (r : ℕ) (t′ out′ : List ℕ) : Type 0 where
-    pub reply : r ≡ replyAnswer (openReply M k m t)
-    pub table : t′ ≡ after M k m t (dealt M k m t ops workers keys prices out) .table
-    pub answers : out′
-        ≡ answersOf M (dealt M k m t ops workers keys prices out) (opening M k m t) ++ drop (length (dealt M k m t ops workers keys prices out)) out
+    pub reply : r ≡ replyAnswer (openReply M k m t os)
+    pub table : t′ ≡ after M k m t os calls .table
+    pub answers : out′ ≡ answersOf M os calls (opening M k m t os) ++ drop (length calls) out

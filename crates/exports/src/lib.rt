@@ -1,9 +1,14 @@
 // Functions for C and Rust: numbers and slices alone. The header vulzegan.h declares them.
+use orders::Order;
 use singly::refusal_answer;
 use singly::reply_answer;
+use state::Phase;
+use state::Replied;
 use tables::Counted;
 ghost use mathlib.Core.Path.{_≡_};
+ghost use Rattle.orders.specs.Orders.{ordersOf};
 ghost use Rattle.state.specs.Model.{gateway};
+ghost use Rattle.state.specs.Open.{openCall};
 ghost use Rattle.tables.specs.Calls.{checkCall, countCall, listCall, listAfter};
 ghost use Rattle.numbered.specs.Numbers.{replyAnswer};
 ghost use Rattle.numbered.specs.Batch.{Promised};
@@ -47,23 +52,60 @@ pub extern "C" fn vulzegan_list(cells: &[u64], out: &mut [u64]) -> u64
     counted_answer(listed)
 }
 
-// Opens a phase and, if the opening is accepted, applies calls: 0, or the number of the opening's refusal.
+// The number of the answer of an opening.
+fn opened_answer(opened: Replied) -> u64
+    ensures { λ r. ⌜ r ≡ replyAnswer (opened .reply) ⌝ }
+{
+    let reply = opened.reply;
+    reply_answer(reply)
+}
+
+// Whether a phase may be opened: 0, or the number of the refusal.
+#[no_mangle]
+pub extern "C" fn vulzegan_open(kind: u64, count: u64, cells: &[u64], orders: &[Order]) -> u64
+    ensures { λ r. ⌜ r ≡ replyAnswer (openCall gateway kind count (now (cells .entry)) (now (orders .entry)) .reply) ⌝ }
+{
+    let opened = Phase::open(kind, count, cells, orders);
+    opened_answer(opened)
+}
+
+// Opens a phase, an insert phase with a list of orders, and if the opening is accepted, applies calls, each lent that list: 0, or the number of the
+// opening's refusal.
 #[no_mangle]
 pub extern "C" fn vulzegan_run_calls(
     kind: u64,
     count: u64,
     cells: &mut [u64],
+    order_keys: &[u32],
+    order_prices: &[u32],
+    order_workers: &[u32],
     ops: &[u32],
+    lines: &[u32],
     workers: &[u32],
     keys: &[u32],
-    prices: &[u32],
     answers: &mut [u64],
 ) -> u64
-    ensures is_run { λ r. ⌜ RunNumbers gateway kind count (now (cells .entry)) (now (ops .entry)) (now (workers .entry)) (now (keys .entry)) (now (prices .entry)) (now (answers .entry))
+    ensures is_run { λ r. ⌜ RunNumbers gateway kind count (now (cells .entry))
+        (ordersOf (now («order_keys» .entry)) (now («order_prices» .entry)) (now («order_workers» .entry)))
+        (now (ops .entry)) (now (lines .entry)) (now (workers .entry)) (now (keys .entry)) (now (answers .entry))
         r (now (cells .exit)) (now (answers .exit)) ⌝ }
-    ensures promise { λ r. ⌜ Promised gateway kind count (now (cells .entry)) (now (ops .entry)) (now (workers .entry)) (now (keys .entry)) (now (prices .entry)) (now (answers .entry)) ⌝ }
+    ensures promise { λ r. ⌜ Promised gateway kind count (now (cells .entry))
+        (ordersOf (now («order_keys» .entry)) (now («order_prices» .entry)) (now («order_workers» .entry)))
+        (now (ops .entry)) (now (lines .entry)) (now (workers .entry)) (now (keys .entry)) (now (answers .entry)) ⌝ }
 {
-    let ran = batch::run_calls(kind, count, cells, ops, workers, keys, prices, answers);
+    let ran = batch::run_calls(
+        kind,
+        count,
+        cells,
+        order_keys,
+        order_prices,
+        order_workers,
+        ops,
+        lines,
+        workers,
+        keys,
+        answers,
+    );
     let reply = ran.reply;
     reply_answer(reply)
 }
@@ -74,17 +116,36 @@ pub extern "C" fn vulzegan_run_calls_singly(
     kind: u64,
     count: u64,
     cells: &mut [u64],
+    order_keys: &[u32],
+    order_prices: &[u32],
+    order_workers: &[u32],
     ops: &[u32],
+    lines: &[u32],
     workers: &[u32],
     keys: &[u32],
-    prices: &[u32],
     answers: &mut [u64],
 ) -> u64
-    ensures is_run { λ r. ⌜ RunNumbers gateway kind count (now (cells .entry)) (now (ops .entry)) (now (workers .entry)) (now (keys .entry)) (now (prices .entry)) (now (answers .entry))
+    ensures is_run { λ r. ⌜ RunNumbers gateway kind count (now (cells .entry))
+        (ordersOf (now («order_keys» .entry)) (now («order_prices» .entry)) (now («order_workers» .entry)))
+        (now (ops .entry)) (now (lines .entry)) (now (workers .entry)) (now (keys .entry)) (now (answers .entry))
         r (now (cells .exit)) (now (answers .exit)) ⌝ }
-    ensures promise { λ r. ⌜ Promised gateway kind count (now (cells .entry)) (now (ops .entry)) (now (workers .entry)) (now (keys .entry)) (now (prices .entry)) (now (answers .entry)) ⌝ }
+    ensures promise { λ r. ⌜ Promised gateway kind count (now (cells .entry))
+        (ordersOf (now («order_keys» .entry)) (now («order_prices» .entry)) (now («order_workers» .entry)))
+        (now (ops .entry)) (now (lines .entry)) (now (workers .entry)) (now (keys .entry)) (now (answers .entry)) ⌝ }
 {
-    let ran = batch::run_calls_singly(kind, count, cells, ops, workers, keys, prices, answers);
+    let ran = batch::run_calls_singly(
+        kind,
+        count,
+        cells,
+        order_keys,
+        order_prices,
+        order_workers,
+        ops,
+        lines,
+        workers,
+        keys,
+        answers,
+    );
     let reply = ran.reply;
     reply_answer(reply)
 }

@@ -1,22 +1,26 @@
 -- The corollaries, each by its promises. Premises are computed, outputs are not.
-use mathlib.Core.Path.{_≡_, refl, ap, _∙_, subst}
+use mathlib.Core.Path.{_≡_, refl, sym, ap, _∙_, subst}
 use mathlib.Core.Logic.{_≢_, inl, inr, ⊎-elim}
 use mathlib.Core.Bool.{Bool, true, false, _||_}
 use mathlib.Core.List.{List, [], _∷_, _++_}
-use Prim.Native.Nat.{ℕ, suc}
+use Prim.Native.Nat.{ℕ, zero, suc, _≤_}
 use native.Mathlib.Omega.{arith}
-use lib.ListN.{length, getD, replicate}
+use lib.ListN.{length, getD, replicate, length-replicate}
 use Rattle.ring.specs.Counting.{count}
 use Rattle.ring.specs.Ring.{wrap, dist}
 use Rattle.ring.proofs.Tests.{not-both}
+use Rattle.layout.specs.Layout.{into, descending}
 use Rattle.layout.specs.Sound.{all, some, clear, isSound}
 use Rattle.prices.specs.Contents.{isSoundTable}
+use Rattle.orders.specs.Orders.{lineFault, linesFault}
+use Rattle.orders.specs.declared.Order.{Order}
 use Rattle.rule.specs.Rule.{settled, absorbed, insertStep, findStep, rule}
 use Rattle.rule.specs.declared.Answer.the-variants.{Idle}
 use Rattle.state.specs.Model.{gateway}
 use Rattle.state.specs.Open.{openCall}
+use Rattle.state.specs.declared.Refusal.the-variants.{Full, NoLine}
 use Rattle.state.specs.declared.Replied.{Replied}
-use Rattle.state.specs.declared.Reply.the-variants.{Accepted}
+use Rattle.state.specs.declared.Reply.the-variants.{Accepted, Refused}
 use Rattle.words.specs.Words.{entriesOf}
 use Rattle.tables.specs.Calls.{checkCall}
 use Rattle.protocol.specs.Calls.{closeCall, orderCall, turnCall}
@@ -29,11 +33,11 @@ use Rattle.text.specs.Numbers.{digits, leads, valueFrom, isNumber}
 use Rattle.text.proofs.Test.{by-test}
 use Rattle.lines.specs.Grammar.{commandIn, areNumbers, numbersOf, readingOf, longestLine, keptBytes}
 use Rattle.dealing.specs.Deal.{Dealing, dealTo, deal, laps, run}
-use Rattle.sheet.specs.Promise.{line, FirstIs, Unreadable, workersText, finishText, listText, stateWith, Bad, InShut}
+use Rattle.sheet.specs.Promise.{line, FirstIs, Unreadable, workersText, finishText, listText, stateWith, Bad, InShut, InOpen}
 use Rattle.sheet.specs.Valid.{Valid}
 use Rattle.sheet.specs.Replay.{State, blank, Answer, answerOf}
 use Rattle.sheet.proofs.Theorem.{sheet-promise}
-use Rattle.feed.specs.Corollaries.{Corollaries}
+use Rattle.feed.specs.Corollaries.{oks, Corollaries}
 use Rattle.feed.specs.Feed.{begin, behind, fed}
 use Rattle.feed.specs.Promise.{Plain, AllPlain, written, stateBehind, endsIn}
 use Rattle.feed.specs.Whole.{outputOf}
@@ -55,6 +59,10 @@ ends-more l [] s e = or-none (answerOf s (readingOf l) .ended)
 ends-more l (x ∷ ls) s e = by-test (answerOf s (readingOf x) .ended)
     (λ t. absurd (not-both true refl (rw t at e)))
     (λ f. rw f (ends-more l ls (answerOf s (readingOf x) .state) (rw f at e)))
+
+plain-more : (ls : List (List ℕ)) (l : List ℕ) → AllPlain ls → Plain l → AllPlain (ls ++ l ∷ [])
+plain-more [] l ps p = (p, tt)
+plain-more (x ∷ ls) l ps p = (ps .0, plain-more ls l (ps .1) p)
 
 -- ---- lines that lead to the state s, print this and do not end the replay
 record Leads (ls : List (List ℕ)) (s : State) (out : List ℕ) : Type 0 where
@@ -81,29 +89,28 @@ module _ (ls : List (List ℕ)) (s : State) (out : List ℕ) (h : Leads ls s out
       )
 
   -- where it does not end the replay
-  more : AllPlain (ls ++ l ∷ []) → (a : Answer) → a .ended ≡ false → answerOf s (readingOf l) ≡ a
-      → (out′ : List ℕ) → out ++ (digitsOf (suc (length ls)) ++ a .printed) ≡ out′ → Leads (ls ++ l ∷ []) (a .state) out′
-  more ps a g e out′ f =
+  more : (a : Answer) → a .ended ≡ false → answerOf s (readingOf l) ≡ a
+      → (text : List ℕ) → digitsOf (suc (length ls)) ++ a .printed ≡ text → Leads (ls ++ l ∷ []) (a .state) (out ++ text)
+  more a g e text f =
       let (prints, state, goes) = answered a e in
       record {
-        plain = ps;
+        plain = plain-more ls l (h .plain) p;
         goes = goes ∙ g;
         state = state;
-        prints = prints ∙ f;
+        prints = prints ∙ ap (λ (x : List ℕ). out ++ x) f;
         valid = subst (λ (x : Answer). Valid (x .state)) e (sheet-promise .valid s (h .valid) l);
       }
 
   -- a bad line, and one more behind it
-  ended : AllPlain (ls ++ l ∷ []) → Bad s l → (x : List ℕ) → Plain x
+  ended : Bad s l → (x : List ℕ) → Plain x
       → outputOf (written ((ls ++ l ∷ []) ++ x ∷ [])) ≡ out ++ (digitsOf (suc (length ls)) ++ bytesOf "\tbad\n")
-  ended ps e x q = let (prints, _, over) = answered _ e in feed-promise .line-past (ls ++ l ∷ []) x ps q over ∙ prints
+  ended e x q =
+      let (prints, _, over) = answered _ e in
+      feed-promise .line-past (ls ++ l ∷ []) x (plain-more ls l (h .plain) p) q over ∙ prints
 
 -- ---- a shut shift, before `cells`
 before : InShut blank
 before = sheet-promise .shut blank (sheet-promise .before-open)
-
-abbrev openLine : List ℕ
-openLine = line "open" (1 ∷ 2 ∷ [])
 
 abbrev brokenOrder : List ℕ
 brokenOrder = bytesOf "order\tx"
@@ -112,262 +119,401 @@ first-order : FirstIs (bytesOf "order") brokenOrder
 unfolding bytesOf
 first-order = inr (bytesOf "x", refl)
 
-first-plain : AllPlain (openLine ∷ brokenOrder ∷ [])
-unfolding byteAt bytesOf digitsOf digitsWithin
-first-plain = (refl, (refl, tt))
+-- ---- the lines
+abbrev cellsLine : ℕ → List ℕ
+cellsLine n = line "cells" (n ∷ [])
 
--- ---- `cells` 5
-abbrev cellsLine : List ℕ
-cellsLine = line "cells" (5 ∷ [])
+abbrev openLine : ℕ → ℕ → List ℕ
+openLine k m = line "open" (k ∷ m ∷ [])
 
-abbrev withCells : State
-withCells = stateWith (blank .phase) (replicate 5 0)
+abbrev itemThree : List ℕ
+itemThree = line "item" (0 ∷ 3 ∷ 20 ∷ [])
 
-abbrev cellsOut : List ℕ
-cellsOut = bytesOf "1\tok\n"
+abbrev itemEight : List ℕ
+itemEight = line "item" (1 ∷ 8 ∷ 15 ∷ [])
 
-cells-plain : Plain cellsLine
-unfolding byteAt bytesOf digitsOf digitsWithin
-cells-plain = refl
+abbrev placeLine : ℕ → List ℕ
+placeLine i = line "order" (i ∷ [])
 
-cells-lead : Leads (cellsLine ∷ []) withCells cellsOut
-unfolding bytesOf digitsOf digitsWithin
-cells-lead = more [] blank [] none cellsLine cells-plain (cells-plain, tt) _ refl (before .cells 5 (omega arith) (omega arith)) cellsOut refl
+abbrev orderLine : ℕ → ℕ → List ℕ
+orderLine w v = line "order" (w ∷ v ∷ [])
 
--- ---- `open` 1 2
-abbrev openState : State
-openState = stateWith (openCall gateway 1 2 (replicate 5 0) .phase) (replicate 5 0)
-
-abbrev openOut : List ℕ
-openOut = bytesOf "1\tok\n2\tok\n"
-
-two-plain : AllPlain (cellsLine ∷ openLine ∷ [])
-two-plain = (cells-plain, (first-plain .0, tt))
-
-open-accepted : openCall gateway 1 2 (replicate 5 0) .reply ≡ Accepted
-unfolding isSoundTable isSound all some clear dist wrap
-open-accepted = refl
-
-open-lead : Leads (cellsLine ∷ openLine ∷ []) openState openOut
-unfolding bytesOf digitsOf digitsWithin
-open-lead = more (cellsLine ∷ []) withCells cellsOut cells-lead openLine (first-plain .0) two-plain _ refl
-    (sheet-promise .shut withCells refl .opening 1 2 (omega arith) (omega arith)) openOut (rw open-accepted refl)
-
-put-in : openState .phase .kind ≡ 1
-unfolding isSoundTable isSound all some clear dist wrap
-put-in = refl
-
-open-running : openState .phase .shut ≡ false
-unfolding isSoundTable isSound all some clear dist wrap
-open-running = refl
-
--- ---- behind `cells`
-check-passes : checkCall gateway (replicate 5 0) ≡ Accepted
-unfolding isSoundTable isSound all some clear dist wrap
-check-passes = refl
-
-abbrev listLine : List ℕ
-listLine = line "list" []
-
-list-plain : Plain listLine
-unfolding byteAt bytesOf
-list-plain = refl
-
--- ---- behind `open`
 abbrev turnLine : List ℕ
 turnLine = line "turn" (1 ∷ [])
-
-third-plain : Plain turnLine × Plain (bytesOf "open")
-unfolding byteAt bytesOf digitsOf digitsWithin
-third-plain = (refl, refl)
-
-three-plain : (l : List ℕ) → Plain l → AllPlain (cellsLine ∷ openLine ∷ l ∷ [])
-three-plain l p = (cells-plain, (first-plain .0, (p, tt)))
-
-worker-idle : turnCall gateway (openState .phase) (replicate 5 0) 1 .reply ≡ Answered Idle
-unfolding isWellFormed isSoundTable isSound all some clear dist wrap count
-worker-idle = refl
-
--- ---- two orders and a run
-abbrev first : Replied
-first = orderCall gateway (openState .phase) 0 3 20
-
-abbrev second : Replied
-second = orderCall gateway (first .phase) 1 8 15
-
-orders-accepted : (first .reply ≡ Accepted) × (second .reply ≡ Accepted) × (second .phase .shut ≡ false) × (first .phase .shut ≡ false)
-unfolding isWellFormed isSoundTable isSound all some clear dist wrap count
-orders-accepted = (refl, refl, refl, refl)
-
-put-in-still : first .phase .kind ≡ 1
-unfolding isWellFormed isSoundTable isSound all some clear dist wrap count
-put-in-still = refl
-
-abbrev firstState : State
-firstState = stateWith (first .phase) (replicate 5 0)
-
-abbrev secondState : State
-secondState = stateWith (second .phase) (replicate 5 0)
-
-abbrev orderThree : List ℕ
-orderThree = line "order" (0 ∷ 3 ∷ 20 ∷ [])
-
-abbrev orderEight : List ℕ
-orderEight = line "order" (1 ∷ 8 ∷ 15 ∷ [])
 
 abbrev runLine : List ℕ
 runLine = line "run" []
 
-abbrev firstOut : List ℕ
-firstOut = bytesOf "1\tok\n2\tok\n3\tok\n"
+abbrev closeLine : List ℕ
+closeLine = line "close" []
 
-abbrev secondOut : List ℕ
-secondOut = bytesOf "1\tok\n2\tok\n3\tok\n4\tok\n"
+abbrev listLine : List ℕ
+listLine = line "list" []
 
-orders-plain : AllPlain (orderThree ∷ orderEight ∷ runLine ∷ [])
+-- no newline is in them
+record Plains : Type 0 where
+  cells : Plain (cellsLine 5) × Plain (cellsLine 1) × Plain (cellsLine 2)
+  opens : Plain (openLine 1 2) × Plain (openLine 3 1)
+  items : Plain itemThree × Plain itemEight
+  places : Plain (placeLine 0) × Plain (placeLine 1) × Plain (placeLine 2)
+  orders : Plain (orderLine 0 8) × Plain (orderLine 0 3)
+  others : Plain turnLine × Plain runLine × Plain closeLine × Plain listLine
+  broken : Plain brokenOrder × Plain (bytesOf "open")
+
+plains : Plains
 unfolding byteAt bytesOf digitsOf digitsWithin
-orders-plain = (refl, (refl, (refl, tt)))
+plains = record {
+  cells = (refl, refl, refl);
+  opens = (refl, refl);
+  items = (refl, refl);
+  places = (refl, refl, refl);
+  orders = (refl, refl);
+  others = (refl, refl, refl, refl);
+  broken = (refl, refl);
+}
 
-first-lead : Leads (cellsLine ∷ openLine ∷ orderThree ∷ []) firstState firstOut
-unfolding bytesOf digitsOf digitsWithin
-first-lead =
-    let (p, _) = orders-plain in
-    more (cellsLine ∷ openLine ∷ []) openState openOut open-lead orderThree p (three-plain orderThree p) _ refl
-    (sheet-promise .opened openState open-running .order-priced put-in 0 3 20 (omega arith) (omega arith) (omega arith)) firstOut (rw (orders-accepted .0) refl)
+-- ---- `cells` 5
+abbrev cellsLines : List (List ℕ)
+cellsLines = cellsLine 5 ∷ []
 
-second-lead : Leads (cellsLine ∷ openLine ∷ orderThree ∷ orderEight ∷ []) secondState secondOut
+abbrev withCells : State
+withCells = stateWith (blank .phase) (replicate 5 0) []
+
+cells-lead : Leads cellsLines withCells (bytesOf "1\tok\n")
 unfolding bytesOf digitsOf digitsWithin
-second-lead =
-    let (p, (q, _)) = orders-plain in
-    more (cellsLine ∷ openLine ∷ orderThree ∷ []) firstState firstOut first-lead orderEight q
-    (cells-plain, (first-plain .0, (p, (q, tt)))) _ refl
-    (sheet-promise .opened firstState (orders-accepted .3) .order-priced put-in-still 1 8 15 (omega arith) (omega arith) (omega arith)) secondOut
-    (rw (orders-accepted .1) refl)
+cells-lead = more [] blank [] none (cellsLine 5) (plains .cells .0) _ refl (before .cells 5 (omega arith) (omega arith)) (bytesOf "1\tok\n") refl
+
+check-passes : checkCall gateway (replicate 5 0) ≡ Accepted
+unfolding isSoundTable isSound all some clear dist wrap
+check-passes = refl
+
+-- ---- `open` 1 2 without items
+abbrev openLines : List (List ℕ)
+openLines = cellsLines ++ openLine 1 2 ∷ []
+
+abbrev openState : State
+openState = stateWith (openCall gateway 1 2 (replicate 5 0) [] .phase) (replicate 5 0) []
+
+abbrev openOut : List ℕ
+openOut = bytesOf "1\tok\n2\tok\n"
+
+open-accepted : (openCall gateway 1 2 (replicate 5 0) [] .reply ≡ Accepted) × (openState .phase .kind ≡ 1) × (openState .phase .shut ≡ false)
+unfolding isSoundTable isSound all some clear dist wrap lineFault linesFault into descending
+open-accepted = (refl, refl, refl)
+
+open-lead : Leads openLines openState openOut
+unfolding bytesOf digitsOf digitsWithin
+open-lead = more cellsLines withCells _ cells-lead (openLine 1 2) (plains .opens .0) _ refl
+    (sheet-promise .shut withCells refl .opening 1 2 (omega arith) (omega arith)) (bytesOf "2\tok\n") (rw (open-accepted .0) refl)
+
+running : InOpen openState
+running = sheet-promise .opened openState (open-accepted .2)
+
+worker-idle : turnCall gateway (openState .phase) (replicate 5 0) 1 .reply ≡ Answered Idle
+unfolding isWellFormed isSoundTable isSound all some clear dist wrap count lineFault linesFault into descending
+worker-idle = refl
+
+-- ---- two items
+abbrev three : Order
+three = record { key = 3; price = 20; worker = 0 }
+
+abbrev items : List Order
+items = three ∷ record { key = 8; price = 15; worker = 1 } ∷ []
+
+abbrev oneLines : List (List ℕ)
+oneLines = cellsLines ++ itemThree ∷ []
+
+abbrev twoLines : List (List ℕ)
+twoLines = oneLines ++ itemEight ∷ []
+
+abbrev oneState : State
+oneState = stateWith (blank .phase) (replicate 5 0) (three ∷ [])
+
+abbrev twoState : State
+twoState = stateWith (blank .phase) (replicate 5 0) items
+
+one-lead : Leads oneLines oneState (bytesOf "1\tok\n2\tok\n")
+unfolding bytesOf digitsOf digitsWithin
+one-lead = more cellsLines withCells _ cells-lead itemThree (plains .items .0) _ refl
+    (sheet-promise .shut withCells refl .item 0 3 20 (omega arith) (omega arith) (omega arith) (omega arith)) (bytesOf "2\tok\n") refl
+
+two-lead : Leads twoLines twoState (bytesOf "1\tok\n2\tok\n3\tok\n")
+unfolding bytesOf digitsOf digitsWithin
+two-lead = more oneLines oneState _ one-lead itemEight (plains .items .1) _ refl
+    (sheet-promise .shut oneState refl .item 1 8 15 (omega arith) (omega arith) (omega arith) (omega arith)) (bytesOf "3\tok\n") refl
+
+-- ---- they open a put-in shift
+abbrev startLines : List (List ℕ)
+startLines = twoLines ++ openLine 1 2 ∷ []
+
+abbrev startState : State
+startState = stateWith (openCall gateway 1 2 (replicate 5 0) items .phase) (replicate 5 0) items
+
+abbrev startOut : List ℕ
+startOut = bytesOf "1\tok\n2\tok\n3\tok\n4\tok\n"
+
+start-accepted : (openCall gateway 1 2 (replicate 5 0) items .reply ≡ Accepted) × (startState .phase .kind ≡ 1) × (startState .phase .shut ≡ false)
+unfolding isSoundTable isSound all some clear dist wrap lineFault linesFault into descending
+start-accepted = (refl, refl, refl)
+
+start-lead : Leads startLines startState startOut
+unfolding bytesOf digitsOf digitsWithin
+start-lead = more twoLines twoState _ two-lead (openLine 1 2) (plains .opens .0) _ refl
+    (sheet-promise .shut twoState refl .opening 1 2 (omega arith) (omega arith)) (bytesOf "4\tok\n") (rw (start-accepted .0) refl)
+
+starting : InOpen startState
+starting = sheet-promise .opened startState (start-accepted .2)
+
+-- a place past the list
+past-refused : orderCall gateway (startState .phase) items 2 0 0 .reply ≡ Refused NoLine
+unfolding isWellFormed isSoundTable isSound all some clear dist wrap count lineFault linesFault into descending
+past-refused = refl
+
+-- ---- two orders and a run
+abbrev first : Replied
+first = orderCall gateway (startState .phase) items 0 0 0
+
+abbrev second : Replied
+second = orderCall gateway (first .phase) items 1 0 0
+
+abbrev firstState : State
+firstState = stateWith (first .phase) (replicate 5 0) items
+
+abbrev secondState : State
+secondState = stateWith (second .phase) (replicate 5 0) items
+
+first-accepted : (first .reply ≡ Accepted) × (first .phase .kind ≡ 1) × (first .phase .shut ≡ false)
+unfolding isWellFormed isSoundTable isSound all some clear dist wrap count lineFault linesFault into descending
+first-accepted = (refl, refl, refl)
+
+second-accepted : (second .reply ≡ Accepted) × (second .phase .shut ≡ false)
+unfolding isWellFormed isSoundTable isSound all some clear dist wrap count lineFault linesFault into descending
+second-accepted = (refl, refl)
+
+abbrev firstLines : List (List ℕ)
+firstLines = startLines ++ placeLine 0 ∷ []
+
+abbrev secondLines : List (List ℕ)
+secondLines = firstLines ++ placeLine 1 ∷ []
+
+first-lead : Leads firstLines firstState (bytesOf "1\tok\n2\tok\n3\tok\n4\tok\n5\tok\n")
+unfolding bytesOf digitsOf digitsWithin
+first-lead = more startLines startState _ start-lead (placeLine 0) (plains .places .0) _ refl
+    (starting .order-placed (start-accepted .1) 0 (omega arith) 0 0) (bytesOf "5\tok\n") (rw (first-accepted .0) refl)
+
+second-lead : Leads secondLines secondState (bytesOf "1\tok\n2\tok\n3\tok\n4\tok\n5\tok\n6\tok\n")
+unfolding bytesOf digitsOf digitsWithin
+second-lead = more firstLines firstState _ first-lead (placeLine 1) (plains .places .1) _ refl
+    (sheet-promise .opened firstState (first-accepted .2) .order-placed (first-accepted .1) 1 (omega arith) 0 0) (bytesOf "6\tok\n")
+    (rw (second-accepted .0) refl)
 
 -- how the workers finish
 run-told : workersText (second .phase .crew) (finishText (run gateway (second .phase) (replicate 5 0) .dealt .finishes)) ≡ bytesOf "\tdone\tdone"
-unfolding bytesOf laps deal dealTo isWellFormed rule settled absorbed insertStep isSoundTable isSound all some clear dist wrap count
+unfolding
+    bytesOf laps deal dealTo isWellFormed rule settled absorbed insertStep isSoundTable isSound all some clear dist wrap count
+    lineFault linesFault into descending
 run-told = refl
 
--- ---- the run, and the shift closed
 abbrev ran : Dealing
 ran = run gateway (second .phase) (replicate 5 0)
 
 abbrev ranState : State
-ranState = stateWith (ran .dealt .phase) (ran .table)
+ranState = stateWith (ran .dealt .phase) (ran .table) items
 
-abbrev ranOut : List ℕ
-ranOut = bytesOf "1\tok\n2\tok\n3\tok\n4\tok\n5\tdone\tdone\n"
+abbrev ranLines : List (List ℕ)
+ranLines = secondLines ++ runLine ∷ []
 
-five-plain : AllPlain (cellsLine ∷ openLine ∷ orderThree ∷ orderEight ∷ runLine ∷ [])
-five-plain = (cells-plain, (first-plain .0, orders-plain))
-
-ran-lead : Leads (cellsLine ∷ openLine ∷ orderThree ∷ orderEight ∷ runLine ∷ []) ranState ranOut
+ran-lead : Leads ranLines ranState (bytesOf "1\tok\n2\tok\n3\tok\n4\tok\n5\tok\n6\tok\n7\tdone\tdone\n")
 unfolding bytesOf digitsOf digitsWithin
 ran-lead =
-    let (_, (_, (r, _))) = orders-plain in
-    let up = orders-accepted .2 in
-    more (cellsLine ∷ openLine ∷ orderThree ∷ orderEight ∷ []) secondState secondOut second-lead runLine r five-plain _ refl
-    (sheet-promise .opened secondState up .run (sheet-promise .crew secondState (second-lead .valid) up .1)) ranOut (rw run-told refl)
+    let up = second-accepted .1 in
+    more secondLines secondState _ second-lead runLine (plains .others .1) _ refl
+    (sheet-promise .opened secondState up .run (sheet-promise .crew secondState (second-lead .valid) up .1)) (bytesOf "7\tdone\tdone\n") (rw run-told refl)
 
-abbrev closeLine : List ℕ
-closeLine = line "close" []
-
-abbrev findLine : List ℕ
-findLine = line "open" (3 ∷ 1 ∷ [])
-
-abbrev orderFind : List ℕ
-orderFind = line "order" (0 ∷ 8 ∷ [])
-
-abbrev orderPriced : List ℕ
-orderPriced = line "order" (0 ∷ 8 ∷ 15 ∷ [])
-
-abbrev orderUnpriced : List ℕ
-orderUnpriced = line "order" (0 ∷ 3 ∷ [])
-
-last-plain : AllPlain (closeLine ∷ findLine ∷ orderFind ∷ runLine ∷ [])
-unfolding byteAt bytesOf digitsOf digitsWithin
-last-plain = (refl, (refl, (refl, (refl, tt))))
-
-misfits-plain : Plain orderPriced × Plain orderUnpriced
-unfolding byteAt bytesOf digitsOf digitsWithin
-misfits-plain = (refl, refl)
-
+-- ---- the shift closed, and its items with it
 abbrev closed : Replied
 closed = closeCall gateway (ran .dealt .phase)
 
 abbrev closedState : State
-closedState = stateWith (closed .phase) (ran .table)
+closedState = stateWith (closed .phase) (ran .table) []
+
+abbrev closedLines : List (List ℕ)
+closedLines = ranLines ++ closeLine ∷ []
 
 abbrev closedOut : List ℕ
-closedOut = bytesOf "1\tok\n2\tok\n3\tok\n4\tok\n5\tdone\tdone\n6\tok\n"
+closedOut = bytesOf "1\tok\n2\tok\n3\tok\n4\tok\n5\tok\n6\tok\n7\tdone\tdone\n8\tok\n"
 
-close-accepted : (closed .reply ≡ Accepted) × (closed .phase .shut ≡ true)
-unfolding laps deal dealTo isWellFormed rule settled absorbed insertStep isSoundTable isSound all some clear dist wrap count
-close-accepted = (refl, refl)
+close-accepted : (closed .reply ≡ Accepted) × (closed .phase .shut ≡ true) × (ran .dealt .phase .kind ≡ 1)
+unfolding
+    laps deal dealTo isWellFormed rule settled absorbed insertStep isSoundTable isSound all some clear dist wrap count lineFault linesFault into descending
+close-accepted = (refl, refl, refl)
 
 -- the table, each label with its price, is sound
 table-told : (checkCall gateway (ran .table) ≡ Accepted) × (listText (entriesOf (ran .table)) ≡ bytesOf "\t2\t8\t15\t3\t20")
-unfolding bytesOf digitsOf digitsWithin laps deal dealTo isWellFormed rule settled absorbed insertStep isSoundTable isSound all some clear dist wrap count
+unfolding
+    bytesOf digitsOf digitsWithin laps deal dealTo isWellFormed rule settled absorbed insertStep isSoundTable isSound all some clear dist wrap count
+    lineFault linesFault into descending
 table-told = (refl, refl)
 
-closed-lead : Leads (cellsLine ∷ openLine ∷ orderThree ∷ orderEight ∷ runLine ∷ closeLine ∷ []) closedState closedOut
+closed-lead : Leads closedLines closedState closedOut
 unfolding bytesOf digitsOf digitsWithin
-closed-lead =
-    let (p, (q, (r, _))) = orders-plain in
-    let (c, _) = last-plain in
-    more (cellsLine ∷ openLine ∷ orderThree ∷ orderEight ∷ runLine ∷ []) ranState ranOut ran-lead closeLine c
-    (cells-plain, (first-plain .0, (p, (q, (r, (c, tt)))))) _ refl (sheet-promise .either ranState .close) closedOut (rw (close-accepted .0) refl)
+closed-lead = more ranLines ranState _ ran-lead closeLine (plains .others .2) _ refl
+    (sheet-promise .either ranState .close-clears (close-accepted .2) (close-accepted .0)) (bytesOf "8\tok\n") refl
+
+-- ---- the next put-in shift has no items
+abbrev nextState : State
+nextState = stateWith (openCall gateway 1 2 (ran .table) [] .phase) (ran .table) []
+
+abbrev nextLines : List (List ℕ)
+nextLines = closedLines ++ openLine 1 2 ∷ []
+
+next-opens : (openCall gateway 1 2 (ran .table) [] .reply ≡ Accepted) × (nextState .phase .shut ≡ false) × (nextState .phase .kind ≡ 1)
+unfolding
+    laps deal dealTo isWellFormed rule settled absorbed insertStep isSoundTable isSound all some clear dist wrap count lineFault linesFault into descending
+next-opens = (refl, refl, refl)
+
+next-lead : Leads nextLines nextState (closedOut ++ bytesOf "9\tok\n")
+unfolding bytesOf digitsOf digitsWithin
+next-lead = more closedLines closedState _ closed-lead (openLine 1 2) (plains .opens .0) _ refl
+    (sheet-promise .shut closedState (close-accepted .1) .opening 1 2 (omega arith) (omega arith)) (bytesOf "9\tok\n") (rw (next-opens .0) refl)
+
+none-left : orderCall gateway (nextState .phase) [] 0 0 0 .reply ≡ Refused NoLine
+unfolding
+    laps deal dealTo isWellFormed rule settled absorbed insertStep isSoundTable isSound all some clear dist wrap count lineFault linesFault into descending
+none-left = refl
 
 -- ---- a look-up
 abbrev findState : State
-findState = stateWith (openCall gateway 3 1 (ran .table) .phase) (ran .table)
+findState = stateWith (openCall gateway 3 1 (ran .table) [] .phase) (ran .table) []
+
+abbrev findLines : List (List ℕ)
+findLines = closedLines ++ openLine 3 1 ∷ []
 
 abbrev findOut : List ℕ
-findOut = bytesOf "1\tok\n2\tok\n3\tok\n4\tok\n5\tdone\tdone\n6\tok\n7\tok\n"
+findOut = closedOut ++ bytesOf "9\tok\n"
 
-find-opens : (openCall gateway 3 1 (ran .table) .reply ≡ Accepted) × (findState .phase .shut ≡ false) × (findState .phase .kind ≡ 3)
-unfolding laps deal dealTo isWellFormed rule settled absorbed insertStep isSoundTable isSound all some clear dist wrap count
+find-opens : (openCall gateway 3 1 (ran .table) [] .reply ≡ Accepted) × (findState .phase .shut ≡ false) × (findState .phase .kind ≡ 3)
+unfolding
+    laps deal dealTo isWellFormed rule settled absorbed insertStep isSoundTable isSound all some clear dist wrap count lineFault linesFault into descending
 find-opens = (refl, refl, refl)
 
 not-put-in : findState .phase .kind ≢ 1
 not-put-in e = omega (arith, find-opens .2)
 
-find-lead : Leads (cellsLine ∷ openLine ∷ orderThree ∷ orderEight ∷ runLine ∷ closeLine ∷ findLine ∷ []) findState findOut
+find-lead : Leads findLines findState findOut
 unfolding bytesOf digitsOf digitsWithin
-find-lead =
-    let (p, (q, (r, _))) = orders-plain in
-    let (c, (f, _)) = last-plain in
-    more (cellsLine ∷ openLine ∷ orderThree ∷ orderEight ∷ runLine ∷ closeLine ∷ []) closedState closedOut closed-lead findLine f
-    (cells-plain, (first-plain .0, (p, (q, (r, (c, (f, tt))))))) _ refl
-    (sheet-promise .shut closedState (close-accepted .1) .opening 3 1 (omega arith) (omega arith)) findOut (rw (find-opens .0) refl)
+find-lead = more closedLines closedState _ closed-lead (openLine 3 1) (plains .opens .1) _ refl
+    (sheet-promise .shut closedState (close-accepted .1) .opening 3 1 (omega arith) (omega arith)) (bytesOf "9\tok\n") (rw (find-opens .0) refl)
+
+finding : InOpen findState
+finding = sheet-promise .opened findState (find-opens .1)
 
 abbrev wanted : Replied
-wanted = orderCall gateway (findState .phase) 0 8 0
+wanted = orderCall gateway (findState .phase) [] 0 0 8
 
 abbrev wantedState : State
-wantedState = stateWith (wanted .phase) (ran .table)
+wantedState = stateWith (wanted .phase) (ran .table) []
 
-abbrev wantedOut : List ℕ
-wantedOut = bytesOf "1\tok\n2\tok\n3\tok\n4\tok\n5\tdone\tdone\n6\tok\n7\tok\n8\tok\n"
+abbrev wantedLines : List (List ℕ)
+wantedLines = findLines ++ orderLine 0 8 ∷ []
 
 wanted-accepted : (wanted .reply ≡ Accepted) × (wanted .phase .shut ≡ false)
-unfolding laps deal dealTo isWellFormed rule settled absorbed insertStep isSoundTable isSound all some clear dist wrap count
+unfolding
+    laps deal dealTo isWellFormed rule settled absorbed insertStep isSoundTable isSound all some clear dist wrap count lineFault linesFault into descending
 wanted-accepted = (refl, refl)
 
-wanted-lead : Leads (cellsLine ∷ openLine ∷ orderThree ∷ orderEight ∷ runLine ∷ closeLine ∷ findLine ∷ orderFind ∷ []) wantedState wantedOut
+wanted-lead : Leads wantedLines wantedState (findOut ++ bytesOf "10\tok\n")
 unfolding bytesOf digitsOf digitsWithin
-wanted-lead =
-    let (p, (q, (r, _))) = orders-plain in
-    let (c, (f, (o, _))) = last-plain in
-    more (cellsLine ∷ openLine ∷ orderThree ∷ orderEight ∷ runLine ∷ closeLine ∷ findLine ∷ []) findState findOut find-lead orderFind o
-    (cells-plain, (first-plain .0, (p, (q, (r, (c, (f, (o, tt)))))))) _ refl
-    (sheet-promise .opened findState (find-opens .1) .order not-put-in 0 8 0 (omega arith) (omega arith)) wantedOut (rw (wanted-accepted .0) refl)
+wanted-lead = more findLines findState _ find-lead (orderLine 0 8) (plains .orders .0) _ refl
+    (finding .order not-put-in 0 8 (omega arith) (omega arith) [] 0) (bytesOf "10\tok\n") (rw (wanted-accepted .0) refl)
 
 found-told : workersText (wanted .phase .crew) (finishText (run gateway (wanted .phase) (ran .table) .dealt .finishes)) ≡ bytesOf "\t15"
 unfolding
-    bytesOf digitsOf digitsWithin laps deal dealTo isWellFormed rule settled absorbed insertStep findStep isSoundTable isSound all some clear dist wrap count
+    bytesOf digitsOf digitsWithin laps deal dealTo isWellFormed rule settled absorbed insertStep findStep isSoundTable isSound all some clear dist wrap
+    count lineFault linesFault into descending
 found-told = refl
+
+-- ---- the items last: over a refused `cells`, a look-up shift and its close, and another `cells`
+abbrev refusedLines : List (List ℕ)
+refusedLines = twoLines ++ cellsLine 1 ∷ []
+
+refused-lead : Leads refusedLines twoState (bytesOf "1\tok\n2\tok\n3\tok\n4\trefused\t1\n")
+unfolding bytesOf digitsOf digitsWithin
+refused-lead = more twoLines twoState _ two-lead (cellsLine 1) (plains .cells .1) _ refl
+    (sheet-promise .shut twoState refl .cells-refused 1 (omega arith) (λ (few, _). omega arith)) (bytesOf "4\trefused\t1\n") refl
+
+abbrev seekState : State
+seekState = stateWith (openCall gateway 3 1 (replicate 5 0) items .phase) (replicate 5 0) items
+
+abbrev soughtState : State
+soughtState = stateWith (closeCall gateway (seekState .phase) .phase) (replicate 5 0) items
+
+seek-opens : (openCall gateway 3 1 (replicate 5 0) items .reply ≡ Accepted) × (seekState .phase .kind ≡ 3)
+unfolding isSoundTable isSound all some clear dist wrap
+seek-opens = (refl, refl)
+
+seek-closes : (closeCall gateway (seekState .phase) .reply ≡ Accepted) × (soughtState .phase .shut ≡ true)
+unfolding isWellFormed isSoundTable isSound all some clear dist wrap count
+seek-closes = (refl, refl)
+
+abbrev seekLines : List (List ℕ)
+seekLines = refusedLines ++ openLine 3 1 ∷ []
+
+abbrev soughtLines : List (List ℕ)
+soughtLines = seekLines ++ closeLine ∷ []
+
+abbrev smallLines : List (List ℕ)
+smallLines = soughtLines ++ cellsLine 2 ∷ []
+
+seek-lead : Leads seekLines seekState (bytesOf "1\tok\n2\tok\n3\tok\n4\trefused\t1\n5\tok\n")
+unfolding bytesOf digitsOf digitsWithin
+seek-lead = more refusedLines twoState _ refused-lead (openLine 3 1) (plains .opens .1) _ refl
+    (sheet-promise .shut twoState refl .opening 3 1 (omega arith) (omega arith)) (bytesOf "5\tok\n") (rw (seek-opens .0) refl)
+
+sought-lead : Leads soughtLines soughtState (bytesOf "1\tok\n2\tok\n3\tok\n4\trefused\t1\n5\tok\n6\tok\n")
+unfolding bytesOf digitsOf digitsWithin
+sought-lead = more seekLines seekState _ seek-lead closeLine (plains .others .2) _ refl
+    (sheet-promise .either seekState .close (λ e. omega (arith, seek-opens .1))) (bytesOf "6\tok\n") (rw (seek-closes .0) refl)
+
+abbrev smallState : State
+smallState = stateWith (soughtState .phase) (replicate 2 0) items
+
+small-lead : Leads smallLines smallState (bytesOf "1\tok\n2\tok\n3\tok\n4\trefused\t1\n5\tok\n6\tok\n7\tok\n")
+unfolding bytesOf digitsOf digitsWithin
+small-lead = more soughtLines soughtState _ sought-lead (cellsLine 2) (plains .cells .2) _ refl
+    (sheet-promise .shut soughtState (seek-closes .1) .cells 2 (omega arith) (omega arith)) (bytesOf "7\tok\n") refl
+
+full : openCall gateway 1 2 (replicate 2 0) items .reply ≡ Refused Full
+unfolding isSoundTable isSound all some clear dist wrap lineFault linesFault into descending
+full = refl
+
+-- ---- 1,024 items and one more
+replicate-last : {A : Type 0} (n : ℕ) (x : A) → replicate n x ++ x ∷ [] ≡ replicate (suc n) x
+replicate-last zero x = refl
+replicate-last (suc n) x = rw (replicate-last n x)
+
+abbrev filled : ℕ → State
+filled n = stateWith (blank .phase) [] (replicate n three)
+
+items-lead : (n : ℕ) → n ≤ 1024 → Leads (replicate n itemThree) (filled n) (oks n)
+items-lead zero few = none
+items-lead (suc n) few =
+    subst (λ (x : List Order). Leads (replicate (suc n) itemThree) (stateWith (blank .phase) [] x) (oks (suc n))) (replicate-last n three)
+    (subst (λ (x : List (List ℕ)). Leads x (stateWith (blank .phase) [] (replicate n three ++ three ∷ [])) (oks (suc n))) (replicate-last n itemThree)
+    (more (replicate n itemThree) (filled n) (oks n) (items-lead n (omega arith)) itemThree (plains .items .0) _ refl
+    (sheet-promise .shut (filled n) refl .item 0 3 20 (omega arith) (omega arith) (omega arith) (omega (arith, length-replicate n three)))
+    (digitsOf (suc n) ++ bytesOf "\tok\n") (rw (length-replicate n itemThree) (unfold bytesOf in refl))))
+
+first-item : FirstIs (bytesOf "item") itemThree
+unfolding bytesOf digitsOf digitsWithin
+first-item = inr (bytesOf "0\t3\t20", refl)
+
+past-all : (n : ℕ) → n ≡ 1024 → outputOf (written (replicate (suc n) itemThree ++ listLine ∷ [])) ≡ oks n ++ (digitsOf (suc n) ++ bytesOf "\tbad\n")
+past-all n is =
+    ap (λ (x : List (List ℕ)). outputOf (written (x ++ listLine ∷ []))) (sym (replicate-last n itemThree))
+    ∙ ended (replicate n itemThree) (filled n) (oks n) (items-lead n (omega arith)) itemThree (plains .items .0)
+    (sheet-promise .shut (filled n) refl .item-full (omega (arith, length-replicate n three)) itemThree first-item) listLine (plains .others .3)
+    ∙ rw (length-replicate n itemThree)
 
 -- ---- a leading zero
 abbrev zeroLine : List ℕ
@@ -415,48 +561,50 @@ above-bad = before .unreadable aboveLine above-unreadable (not-order (bytesOf "e
 pub corollaries : Corollaries
 unfolding byteAt bytesOf written digitsOf digitsWithin
 corollaries =
-    let (openly, (orderly, _)) = first-plain in
-    let (turned, again) = third-plain in
-    let (o, (q, (r, _))) = orders-plain in
-    let (c, (f, _)) = last-plain in
     let seeking = wanted-accepted .1 in
-    let finding = sheet-promise .opened findState (find-opens .1) in
-    let two = cellsLine ∷ openLine ∷ [] in
-    let running = sheet-promise .opened openState open-running in
     record {
       two-lines = open-lead .prints;
-      five-lines = ran-lead .prints;
+      seven-lines = ran-lead .prints;
       priced-list =
-          more (cellsLine ∷ openLine ∷ orderThree ∷ orderEight ∷ runLine ∷ closeLine ∷ []) closedState closedOut closed-lead listLine list-plain
-          (cells-plain, (openly, (o, (q, (r, (c, (list-plain, tt))))))) _ refl (sheet-promise .either closedState .list (table-told .0))
-          (bytesOf "1\tok\n2\tok\n3\tok\n4\tok\n5\tdone\tdone\n6\tok\n7\t2\t8\t15\t3\t20\n")
-          (ap (λ (x : List ℕ). closedOut ++ (digitsOf 7 ++ (x ++ bytesOf "\n"))) (table-told .1)) .prints;
+          more closedLines closedState _ closed-lead listLine (plains .others .3) _ refl (sheet-promise .either closedState .list (table-told .0))
+          (bytesOf "9\t2\t8\t15\t3\t20\n") (ap (λ (x : List ℕ). digitsOf 9 ++ (x ++ bytesOf "\n")) (table-told .1)) .prints;
       price-told =
-          more (cellsLine ∷ openLine ∷ orderThree ∷ orderEight ∷ runLine ∷ closeLine ∷ findLine ∷ orderFind ∷ []) wantedState wantedOut wanted-lead runLine r
-          (cells-plain, (openly, (o, (q, (r, last-plain))))) _ refl
+          more wantedLines wantedState _ wanted-lead runLine (plains .others .1) _ refl
           (sheet-promise .opened wantedState seeking .run (sheet-promise .crew wantedState (wanted-lead .valid) seeking .1))
-          (bytesOf "1\tok\n2\tok\n3\tok\n4\tok\n5\tdone\tdone\n6\tok\n7\tok\n8\tok\n9\t15\n") (rw found-told refl) .prints;
-      no-price =
-          ended two openState openOut open-lead orderUnpriced (misfits-plain .1) (three-plain orderUnpriced (misfits-plain .1))
-          (running .order-misfit put-in (0 ∷ 3 ∷ []) (λ e. omega arith)) listLine list-plain;
-      needless-price =
-          ended (cellsLine ∷ openLine ∷ orderThree ∷ orderEight ∷ runLine ∷ closeLine ∷ findLine ∷ []) findState findOut find-lead orderPriced (misfits-plain .0)
-          (cells-plain, (openly, (o, (q, (r, (c, (f, (misfits-plain .0, tt)))))))) (finding .order-other-misfit not-put-in (0 ∷ 8 ∷ 15 ∷ []) (λ e. omega arith))
-          listLine list-plain;
+          (bytesOf "11\t15\n") (rw found-told refl) .prints;
+      not-a-place =
+          ended openLines openState openOut open-lead (orderLine 0 3) (plains .orders .1)
+          (running .order-misfit (open-accepted .1) (0 ∷ 3 ∷ []) (λ e. omega arith)) listLine (plains .others .3);
+      no-label =
+          ended findLines findState findOut find-lead (placeLine 0) (plains .places .0)
+          (finding .order-other-misfit not-put-in (0 ∷ []) (λ e. omega arith)) listLine (plains .others .3);
+      past-list =
+          more startLines startState _ start-lead (placeLine 2) (plains .places .2) _ refl (starting .order-placed (start-accepted .1) 2 (omega arith) 0 0)
+          (bytesOf "5\trefused\t15\n") (rw past-refused refl) .prints;
+      cleared =
+          more nextLines nextState _ next-lead (placeLine 0) (plains .places .0) _ refl
+          (sheet-promise .opened nextState (next-opens .1) .order-placed (next-opens .2) 0 (omega arith) 0 0)
+          (bytesOf "10\trefused\t15\n") (rw none-left refl) .prints;
+      kept =
+          more smallLines smallState _ small-lead (openLine 1 2) (plains .opens .0) _ refl
+          (sheet-promise .shut smallState (seek-closes .1) .opening 1 2 (omega arith) (omega arith)) (bytesOf "8\trefused\t9\n") (rw full refl) .prints;
+      item-in-open =
+          ended openLines openState openOut open-lead itemThree (plains .items .0) (running .item itemThree first-item)
+          listLine (plains .others .3);
+      past-items = past-all 1024 refl;
       in-parts = feed-promise .parts (bytesOf "cel" ∷ bytesOf "ls\t5\nopen" ∷ [] ∷ bytesOf "\t1\t2\n" ∷ []) ∙ open-lead .prints;
       idle-turn =
-          more two openState openOut open-lead turnLine turned (three-plain turnLine turned) _ refl (sheet-promise .either openState .turn 1 (omega arith))
-          (bytesOf "1\tok\n2\tok\n3\tidle\n") (rw worker-idle refl) .prints;
+          more openLines openState openOut open-lead turnLine (plains .others .0) _ refl (sheet-promise .either openState .turn 1 (omega arith))
+          (bytesOf "3\tidle\n") (rw worker-idle refl) .prints;
       fresh =
-          more (cellsLine ∷ []) withCells cellsOut cells-lead listLine list-plain (cells-plain, (list-plain, tt)) _ refl
-          (sheet-promise .either withCells .list check-passes) _ refl .prints;
-      no-cells = more [] blank [] none openLine openly (openly, tt) _ refl (before .opening 1 2 (omega arith) (omega arith)) _ refl .prints;
-      order-in-shut = more [] blank [] none brokenOrder orderly (orderly, tt) _ refl (before .order brokenOrder first-order) _ refl .prints;
-      unreadable = ended [] blank [] none zeroLine zero-plain (zero-plain, tt) zero-bad listLine list-plain;
-      above = ended [] blank [] none aboveLine above-plain (above-plain, tt) above-bad listLine list-plain;
+          more cellsLines withCells _ cells-lead listLine (plains .others .3) _ refl (sheet-promise .either withCells .list check-passes) _ refl .prints;
+      no-cells = more [] blank [] none (openLine 1 2) (plains .opens .0) _ refl (before .opening 1 2 (omega arith) (omega arith)) _ refl .prints;
+      order-in-shut = more [] blank [] none brokenOrder (plains .broken .0) _ refl (before .order brokenOrder first-order) _ refl .prints;
+      unreadable = ended [] blank [] none zeroLine zero-plain zero-bad listLine (plains .others .3);
+      above = ended [] blank [] none aboveLine above-plain above-bad listLine (plains .others .3);
       open-twice =
-          ended two openState openOut open-lead (bytesOf "open") again (three-plain (bytesOf "open") again) (running .opening (bytesOf "open") (inl refl))
-          listLine list-plain;
+          ended openLines openState openOut open-lead (bytesOf "open") (plains .broken .1) (running .opening (bytesOf "open") (inl refl))
+          listLine (plains .others .3);
       over = feed-promise .over-output (fed begin (bytesOf "cells\t05\n")) zero-ended;
       last-line = feed-promise .last-line (bytesOf "cells\t2" ∷ []) (bytesOf "list") (refl, tt) refl (omega arith);
     }

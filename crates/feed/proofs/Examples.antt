@@ -6,6 +6,8 @@ use Rattle.ring.specs.Ring.{wrap, probe, dist, prev}
 use Rattle.ring.specs.Counting.{tally, count}
 use Rattle.prices.specs.Contents.{isSoundTable}
 use Rattle.layout.specs.Sound.{all, some, clear, isSound}
+use Rattle.layout.specs.Layout.{into, descending}
+use Rattle.orders.specs.Orders.{lineFault, linesFault}
 use Rattle.rule.specs.Rule.{settled, absorbed, insertStep, findStep, fits, narrow, deleteStep, rule}
 use Rattle.protocol.specs.IsWellFormed.{isWellFormed}
 use Rattle.text.specs.Digits.{digitsWithin, digitsOf}
@@ -21,5 +23,6 @@ use Rattle.feed.specs.Examples.{SheetsPromise}
 pub sheets-promise : SheetsPromise
 unfolding
     bytesOf outputOf linesOf printedFrom answerOf readingOf commandIn same numbersOf areNumbers isNumber valueFrom leads digits fieldsOf digitsOf digitsWithin
-    laps deal dealTo isWellFormed rule settled absorbed insertStep findStep deleteStep fits narrow isSoundTable isSound all some clear dist probe prev wrap placeOf count tally ones
-sheets-promise = (refl, (refl, (refl, (refl, (refl, (refl, (refl, (refl, (refl, (refl, (refl, (refl, (refl, (refl, (refl, (refl, (refl, (refl, (refl, (refl, (refl, (refl, (refl, (refl, (refl, (refl, (refl, (refl, (refl, (refl, (refl, (refl, (refl, tt)))))))))))))))))))))))))))))))))
+    laps deal dealTo isWellFormed rule settled absorbed insertStep findStep deleteStep fits narrow
+    isSoundTable isSound all some clear dist probe prev wrap placeOf count tally ones lineFault linesFault into descending
+sheets-promise = (refl, (refl, (refl, (refl, (refl, (refl, (refl, (refl, (refl, (refl, (refl, (refl, (refl, (refl, (refl, (refl, (refl, (refl, (refl, (refl, (refl, (refl, (refl, (refl, (refl, (refl, (refl, (refl, (refl, (refl, (refl, (refl, (refl, (refl, (refl, (refl, (refl, (refl, (refl, (refl, (refl, (refl, (refl, (refl, (refl, (refl, (refl, (refl, tt))))))))))))))))))))))))))))))))))))))))))))))))

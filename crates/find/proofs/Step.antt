@@ -12,7 +12,7 @@ use Rattle.ring.specs.Counting.{bit, over, count}
 use Rattle.ring.specs.Ring.{next}
 use Rattle.ring.proofs.Counting.{tally-max}
 use Rattle.ring.proofs.Ring.{dist-lt}
-use Rattle.layout.proofs.Path.{On, home-dist, on-home, next-dist, on-next, passed, found-here}
+use Rattle.layout.proofs.Path.{On, home-dist, on-home, next-dist, on-round, passed, found-here}
 use Rattle.layout.proofs.Sets.{held-in, in-holds}
 use Rattle.layout.proofs.Sound.{sound-paths}
 use Rattle.prices.specs.Contents.{price}
@@ -145,7 +145,7 @@ module _ (n W : ℕ) (key home : ℕ → ℕ) (rules : Rules n key home) (t : Li
       reads-on : key v < key c → Next (Reading v i) (goes (Reading v (next n i)) c)
       reads-on l =
           let a = passed n home hb ls (key v) i o (omega (arith, here)) in
-          let on = on-next n home hb ls (key v) i (o .inside) (sound .paths .gap) a (o .key) in
+          let on = on-round n home hb ls (key v) i (o .inside) a (o .key) in
           steps (Reading v i) (Reading v (next n i)) c WentOn is same on (fair .finds .right) (λ y yz. refl)
           (omega (arith, next-dist n home hb ls (key v) i (o .inside) (sound .paths .gap) a, dist-lt n (home (key v)) (hb (key v)) (next n i) (on .inside)))
 

@@ -1,30 +1,34 @@
 -- The promises on fitting a line.
-use mathlib.Core.Path.{_≡_, refl, ap, _∙_}
+use mathlib.Core.Path.{_≡_, refl, sym, ap, _∙_}
 use mathlib.Core.Logic.{_≢_}
 use mathlib.Core.Bool.{Bool, true, false}
-use mathlib.Core.List.{List, [], _∷_}
-use Prim.Native.Nat.{ℕ, zero, suc, _≤_}
+use mathlib.Core.List.{List, [], _∷_, _++_}
+use Prim.Native.Nat.{ℕ, zero, suc, _≤_, _<_}
 use native.Mathlib.Omega.{arith}
 use lib.Dec.{eqb}
-use lib.ListN.{length, getD}
-use borrow.Author.Tests.{eqb-true, ne-eqb, lt-ltb}
+use lib.ListN.{length, getD, length-append}
+use lib.Seq.{getD-at}
+use borrow.Author.Tests.{eqb-true, ne-eqb, lt-ltb, le-ltb}
 use Rattle.text.specs.Bytes.{same, bytesOf}
 use Rattle.text.specs.Fields.{fieldsOf}
 use Rattle.text.specs.Numbers.{digits, leads, valueFrom, isNumber}
-use Rattle.text.proofs.Test.{both-true}
-use Rattle.lines.specs.Grammar.{commandIn, mostNumbers, numbered, areNumbers, numbersOf, readingOf}
+use Rattle.text.proofs.Test.{by-test, by-lt, true-false, both-true}
+use Rattle.orders.specs.declared.Order.{Order}
+use Rattle.orders.specs.Orders.{blank}
+use Rattle.lines.specs.Grammar.{wordOf, known, commandIn, mostNumbers, numbered, areNumbers, numbersOf, readingOf}
 use Rattle.lines.specs.declared.Command.{Command}
 use Rattle.lines.specs.declared.Line.{Line}
 use Rattle.lines.proofs.Lists.{numbers-in}
+use Rattle.lines.proofs.Words.{same-word}
 use Rattle.lines.proofs.Theorem.{lines-promise}
 use Rattle.fitting.specs.Examples.{Tried, lines, AsTried, AllAsTried}
-use Rattle.fitting.specs.Fitting.{orderNumbers, rowOf, fitsRow, handlingIn, handled, readingIn, aimOf}
-use Rattle.fitting.specs.Promise.{Fitted, orderWith, Ordered, FittingPromise}
+use Rattle.fitting.specs.Fitting.{mostItems, orderNumbers, itemHandling, rowOf, fitsRow, handlingIn, handled, readingIn, aimOf}
+use Rattle.fitting.specs.Promise.{Fitted, lineWith, Itemed, Ordered, Placed, FittingPromise}
 use Rattle.fitting.specs.declared.Handling.{Handling}
 use Rattle.fitting.specs.declared.Handling.the-variants.{Performed, Refused, Barred, Bad}
 use Rattle.fitting.specs.declared.Reading.{Reading}
 use Rattle.fitting.specs.declared.Task.{Task}
-use Rattle.fitting.proofs.Fitting.{handled-performed}
+use Rattle.fitting.proofs.Fitting.{handled-performed, performs}
 
 infixr 2 _also_
 -- what is carried out fits its row
@@ -40,88 +44,185 @@ handled-fits Bad f d c e = absurd (let z : _≡_ {A = ℕ} 0 1 = cc in omega ari
 pub other-kind : (k : ℕ) → k ≢ 1 → orderNumbers k ≡ 2
 other-kind k h = rw (ne-eqb k 1 h)
 
-pub same-rows : (k : ℕ) → k ≢ 1 → (c : Command) → rowOf k c ≡ rowOf 2 c
-same-rows k h Command.Cells = refl
-same-rows k h Command.Open = refl
-same-rows k h Command.Order = rw (other-kind k h)
-same-rows k h Command.Turn = refl
-same-rows k h Command.Run = refl
-same-rows k h Command.Close = refl
-same-rows k h Command.List = refl
-same-rows k h Command.Unknown = refl
+pub same-rows : (k : ℕ) → k ≢ 1 → (c : ℕ) (d : Command) → rowOf k c d ≡ rowOf 2 c d
+same-rows k h c Command.Cells = refl
+same-rows k h c Command.Open = refl
+same-rows k h c Command.Item = refl
+same-rows k h c Command.Order = rw (other-kind k h)
+same-rows k h c Command.Turn = refl
+same-rows k h c Command.Run = refl
+same-rows k h c Command.Close = refl
+same-rows k h c Command.List = refl
+same-rows k h c Command.Unknown = refl
 
-same-reading : (k : ℕ) → k ≢ 1 → (shut : Bool) (x : Line) → readingIn k shut x ≡ readingIn 2 shut x
-same-reading k h shut x = rw (same-rows k h (x .command))
+same-reading : (k : ℕ) → k ≢ 1 → (c : ℕ) (shut : Bool) (x : Line) → readingIn k c shut x ≡ readingIn 2 c shut x
+same-reading k h c shut x = rw (same-rows k h c (x .command))
 
-same-aim : (k : ℕ) → k ≢ 1 → (shut : Bool) (x : Line) (m : ℕ) → aimOf k shut x m ≡ aimOf 2 shut x m
-same-aim k h shut x m = rw (same-rows k h (x .command))
+-- ---- how many items are kept
+room-left : (c : ℕ) → c < mostItems → itemHandling c ≡ Performed
+room-left c h = rw (lt-ltb c mostItems h)
 
-fitted : (k : ℕ) (shut : Bool) (l : List ℕ) (c : Command) → readingIn k shut (readingOf l) ≡ Reading.Todo (Task.Perform c) → Fitted k l c
-fitted k shut l c e =
+no-room : (c : ℕ) → mostItems ≤ c → itemHandling c ≡ Bad
+no-room c h = rw (le-ltb c mostItems h)
+
+-- it matters only to an item
+same-items : (k c e : ℕ) (d : Command) → (d ≡ Command.Item → itemHandling c ≡ itemHandling e) → rowOf k c d ≡ rowOf k e d
+same-items k c e Command.Cells h = refl
+same-items k c e Command.Open h = refl
+same-items k c e Command.Item h = rw (h refl)
+same-items k c e Command.Order h = refl
+same-items k c e Command.Turn h = refl
+same-items k c e Command.Run h = refl
+same-items k c e Command.Close h = refl
+same-items k c e Command.List h = refl
+same-items k c e Command.Unknown h = refl
+
+same-kept : (k c e : ℕ) (shut : Bool) (x : Line) → (x .command ≡ Command.Item → itemHandling c ≡ itemHandling e) → readingIn k c shut x ≡ readingIn k e shut x
+same-kept k c e shut x h = rw (same-items k c e (x .command) h)
+
+no-item : (k c e : ℕ) (shut : Bool) (x : Line) → x .command ≢ Command.Item → readingIn k c shut x ≡ readingIn k e shut x
+no-item k c e shut x h = same-kept k c e shut x (λ i. absurd (h i))
+
+item-open : (k c : ℕ) (x : Line) → x .command ≡ Command.Item → readingIn k c false x ≡ Reading.Bad
+item-open k c x e = rw e
+
+item-full : (k c : ℕ) (shut : Bool) (x : Line) → x .command ≡ Command.Item → mostItems ≤ c → readingIn k c shut x ≡ Reading.Bad
+item-full k c true x e h = rw (e, no-room c h)
+item-full k c false x e h = item-open k c x e
+
+-- in an open shift it matters to no line
+open-kept : (k c e : ℕ) (x : Line) → readingIn k c false x ≡ readingIn k e false x
+unfolding same
+open-kept k c e x = by-test (same (wordOf (x .command)) (wordOf Command.Item))
+    (λ t. let i = same-word (x .command) Command.Item t in item-open k c x i ∙ sym (item-open k e x i))
+    (λ t. no-item k c e false x (λ i. true-false (rw i at t)))
+
+-- ---- a line that is carried out
+not-bad : Bad ≡ Performed → ⊥
+not-bad e = let z : _≡_ {A = ℕ} 0 1 = cc in omega arith
+
+item-performed : (c : ℕ) (shut : Bool) → handlingIn shut (rowOf 1 c Command.Item) ≡ Performed → (shut ≡ true) × (c < mostItems)
+item-performed c true h = by-lt c mostItems (λ l. (refl, l)) (λ l. absurd (not-bad (sym (no-room c l) ∙ h)))
+item-performed c false h = absurd (not-bad h)
+
+fitted : (k c : ℕ) (shut : Bool) (l : List ℕ) (d : Command) → readingIn k c shut (readingOf l) ≡ Reading.Todo (Task.Perform d) → Fitted k c shut l d
+fitted k c shut l d e =
     let x : Line = readingOf l in
-    let row = rowOf k (x .command) in
-    let is = handled-performed (handlingIn shut row) (fitsRow row (x .numbers)) (x .command) c e .1 in
-    let fits = handled-fits (handlingIn shut row) (fitsRow row (x .numbers)) (x .command) c e in
+    let row = rowOf k c (x .command) in
+    let is = handled-performed (handlingIn shut row) (fitsRow row (x .numbers)) (x .command) d e .1 in
+    let fits = handled-fits (handlingIn shut row) (fitsRow row (x .numbers)) (x .command) d e in
     let both = both-true (x .numbers .readable) (eqb (x .numbers .count) (row .takes)) fits in
-    let counted : x .numbers .count ≡ rowOf k c .takes =
-    eqb-true (x .numbers .count) (row .takes) (both .1) ∙ ap (λ (d : Command). rowOf k d .takes) is in
+    let counted : x .numbers .count ≡ rowOf k c d .takes =
+    eqb-true (x .numbers .count) (row .takes) (both .1) ∙ ap (λ (b : Command). rowOf k c b .takes) is in
+    let does : handlingIn shut (rowOf k c d) ≡ Performed = performs k c shut x d e in
     record {
       command = is;
       numbers = counted;
       canonical = lines-promise .reading l .canonical (both .0);
-      priced = λ o q. counted ∙ rw (o, q);
-      unpriced = λ o q. counted ∙ rw (o, other-kind k q);
+      placed = λ o q. counted ∙ rw (o, q);
+      named = λ o q. counted ∙ rw (o, other-kind k q);
+      item = λ i. counted ∙ rw i;
+      item-shut = λ i. item-performed c shut (rw i at does) .0;
+      item-room = λ i. item-performed c shut (rw i at does) .1;
     }
 
--- ---- an order line of so many numbers
-order-read : (ns : List ℕ) → length ns ≤ mostNumbers → ((i : ℕ) → getD ns i 0 ≤ 4294967295)
-    → orderWith ns ≡ record { command = Command.Order; numbers = numbered ns }
-order-read ns few range = lines-promise .read-back (record { command = Command.Order; numbers = numbered ns })
-    (record { command = refl; few = few; range = rw (numbers-in ns) range; zeros = rw (numbers-in ns) })
+-- ---- a line of a command and so many numbers
+line-read : (d : Command) → known d ≡ true → (ns : List ℕ) → length ns ≤ mostNumbers → ((i : ℕ) → getD ns i 0 ≤ 4294967295)
+    → lineWith d ns ≡ record { command = d; numbers = numbered ns }
+line-read d k ns few range = lines-promise .read-back (record { command = d; numbers = numbered ns })
+    (record { command = k; few = few; range = rw (numbers-in ns) range; zeros = rw (numbers-in ns) })
 
 in-range : (n : ℕ) → n ≤ 4294967295 → (ns : List ℕ) → ((i : ℕ) → getD ns i 0 ≤ 4294967295) → (i : ℕ) → getD (n ∷ ns) i 0 ≤ 4294967295
 in-range n h ns r zero = h
 in-range n h ns r (suc i) = r i
 
+none : (i : ℕ) → getD [] i 0 ≤ 4294967295
+none i = omega arith
+
 module _ (w v p : ℕ) (a : w ≤ 4294967295) (b : v ≤ 4294967295) (c : p ≤ 4294967295) where
-  none : (i : ℕ) → getD [] i 0 ≤ 4294967295
-  none i = omega arith
+  item-line : lineWith Command.Item (w ∷ v ∷ p ∷ []) ≡ record { command = Command.Item; numbers = numbered (w ∷ v ∷ p ∷ []) }
+  item-line = line-read Command.Item refl (w ∷ v ∷ p ∷ []) (omega arith) (in-range w a (v ∷ p ∷ []) (in-range v b (p ∷ []) (in-range p c [] none)))
 
-  with-price : orderWith (w ∷ v ∷ p ∷ []) ≡ record { command = Command.Order; numbers = numbered (w ∷ v ∷ p ∷ []) }
-  with-price = order-read (w ∷ v ∷ p ∷ []) (omega arith) (in-range w a (v ∷ p ∷ []) (in-range v b (p ∷ []) (in-range p c [] none)))
-
-  without-price : orderWith (w ∷ v ∷ []) ≡ record { command = Command.Order; numbers = numbered (w ∷ v ∷ []) }
-  without-price = order-read (w ∷ v ∷ []) (omega arith) (in-range w a (v ∷ []) (in-range v b [] none))
-
-  ordered : Ordered w v p
-  ordered = record {
-    priced = rw with-price;
-    priced-aim = λ m h. rw with-price (rw (lt-ltb w m h));
-    unpriced = λ k h. same-reading k h false (orderWith (w ∷ v ∷ [])) ∙ rw without-price;
-    unpriced-aim = λ k h m l. same-aim k h false (orderWith (w ∷ v ∷ [])) m ∙ rw without-price (rw (lt-ltb w m l));
+  itemed : Itemed w v p
+  itemed = record {
+    taken = λ k n h. rw item-line (rw (room-left n h));
+    numbers = rw item-line;
   }
 
--- ---- the lines tried, computed for one of the other kinds
-abbrev said : ℕ → Bool → Tried → Reading
-said k shut t = readingIn k shut (readingOf (bytesOf (t .line)))
+module _ (w v : ℕ) (a : w ≤ 4294967295) (b : v ≤ 4294967295) where
+  named-line : lineWith Command.Order (w ∷ v ∷ []) ≡ record { command = Command.Order; numbers = numbered (w ∷ v ∷ []) }
+  named-line = line-read Command.Order refl (w ∷ v ∷ []) (omega arith) (in-range w a (v ∷ []) (in-range v b [] none))
+
+  ordered : Ordered w v
+  ordered = record {
+    named = λ k c h. same-reading k h c false (lineWith Command.Order (w ∷ v ∷ [])) ∙ rw named-line;
+    named-aim = λ k h m os l. rw named-line (rw (ne-eqb k 1 h, lt-ltb w m l));
+    named-past = λ k h m os l. rw named-line (rw (ne-eqb k 1 h, le-ltb w m l));
+  }
+
+module _ (i : ℕ) (a : i ≤ 4294967295) where
+  placed-line : lineWith Command.Order (i ∷ []) ≡ record { command = Command.Order; numbers = numbered (i ∷ []) }
+  placed-line = line-read Command.Order refl (i ∷ []) (omega arith) (in-range i a [] none)
+
+  placed : Placed i
+  placed = record {
+    placed = λ c. rw placed-line;
+    placed-aim = λ before o behind e m h.
+        let n : i < length (before ++ o ∷ behind) = omega (arith, length-append before (o ∷ behind)) in
+        rw (placed-line, getD-at before o behind blank i e, lt-ltb i (length (before ++ o ∷ behind)) n, lt-ltb (o .worker) m h);
+    placed-past = λ before o behind e m h.
+        let n : i < length (before ++ o ∷ behind) = omega (arith, length-append before (o ∷ behind)) in
+        rw (placed-line, getD-at before o behind blank i e, lt-ltb i (length (before ++ o ∷ behind)) n, le-ltb (o .worker) m h);
+    past-aim = λ m os h. rw placed-line (rw (le-ltb i (length os) h));
+  }
+
+-- ---- the lines tried, computed for one of the other kinds, and for no items and as many as are kept
+abbrev said : (k c : ℕ) → Bool → Tried → Reading
+said k c shut t = readingIn k c shut (readingOf (bytesOf (t .line)))
 
 -- both, without brackets
 _also_ : {A B : Type 0} → A → B → A × B
 a also b = (a, b)
 
-one : (t : Tried) → ((k : ℕ) → said k true t ≡ t .shut) → said 1 false t ≡ t .insert → said 2 false t ≡ t .other → AsTried t
-one t a b c = record { shut = a; insert = b; other = λ k h. same-reading k h false (readingOf (bytesOf (t .line))) ∙ c }
+one : (t : Tried) → ((k : ℕ) → said k 0 true t ≡ t .shut) → ((k : ℕ) → said k mostItems true t ≡ t .full)
+    → said 1 0 false t ≡ t .insert → said 2 0 false t ≡ t .other → AsTried t
+one t a f b o =
+    let x = readingOf (bytesOf (t .line)) in
+    record {
+      shut = λ k c h. same-kept k c 0 true x (λ i. room-left c h) ∙ a k;
+      full = λ k c h. same-kept k c mostItems true x (λ i. no-room c h) ∙ f k;
+      insert = λ c. open-kept 1 c 0 x ∙ b;
+      other = λ k c h. same-reading k h c false x ∙ open-kept 2 c 0 x ∙ o;
+    }
 
 as-tried : AllAsTried lines
 unfolding bytesOf readingOf commandIn same numbersOf areNumbers isNumber valueFrom leads digits fieldsOf
 as-tried =
-    one _ (λ k. refl) refl refl also one _ (λ k. refl) refl refl also one _ (λ k. refl) refl refl also one _ (λ k. refl) refl refl also one _ (λ k. refl) refl refl
-    also one _ (λ k. refl) refl refl also one _ (λ k. refl) refl refl also one _ (λ k. refl) refl refl also one _ (λ k. refl) refl refl also one _ (λ k. refl) refl refl
-    also one _ (λ k. refl) refl refl also one _ (λ k. refl) refl refl also one _ (λ k. refl) refl refl also one _ (λ k. refl) refl refl also one _ (λ k. refl) refl refl
-    also one _ (λ k. refl) refl refl also one _ (λ k. refl) refl refl also one _ (λ k. refl) refl refl also one _ (λ k. refl) refl refl also one _ (λ k. refl) refl refl
-    also one _ (λ k. refl) refl refl also one _ (λ k. refl) refl refl also one _ (λ k. refl) refl refl also one _ (λ k. refl) refl refl also one _ (λ k. refl) refl refl
-    also one _ (λ k. refl) refl refl also one _ (λ k. refl) refl refl also one _ (λ k. refl) refl refl also one _ (λ k. refl) refl refl also one _ (λ k. refl) refl refl
-    also one _ (λ k. refl) refl refl also one _ (λ k. refl) refl refl also one _ (λ k. refl) refl refl also tt
+    one _ (λ k. refl) (λ k. refl) refl refl also one _ (λ k. refl) (λ k. refl) refl refl also one _ (λ k. refl) (λ k. refl) refl refl
+    also one _ (λ k. refl) (λ k. refl) refl refl also one _ (λ k. refl) (λ k. refl) refl refl also one _ (λ k. refl) (λ k. refl) refl refl
+    also one _ (λ k. refl) (λ k. refl) refl refl also one _ (λ k. refl) (λ k. refl) refl refl also one _ (λ k. refl) (λ k. refl) refl refl
+    also one _ (λ k. refl) (λ k. refl) refl refl also one _ (λ k. refl) (λ k. refl) refl refl also one _ (λ k. refl) (λ k. refl) refl refl
+    also one _ (λ k. refl) (λ k. refl) refl refl also one _ (λ k. refl) (λ k. refl) refl refl also one _ (λ k. refl) (λ k. refl) refl refl
+    also one _ (λ k. refl) (λ k. refl) refl refl also one _ (λ k. refl) (λ k. refl) refl refl also one _ (λ k. refl) (λ k. refl) refl refl
+    also one _ (λ k. refl) (λ k. refl) refl refl also one _ (λ k. refl) (λ k. refl) refl refl also one _ (λ k. refl) (λ k. refl) refl refl
+    also one _ (λ k. refl) (λ k. refl) refl refl also one _ (λ k. refl) (λ k. refl) refl refl also one _ (λ k. refl) (λ k. refl) refl refl
+    also one _ (λ k. refl) (λ k. refl) refl refl also one _ (λ k. refl) (λ k. refl) refl refl also one _ (λ k. refl) (λ k. refl) refl refl
+    also one _ (λ k. refl) (λ k. refl) refl refl also one _ (λ k. refl) (λ k. refl) refl refl also one _ (λ k. refl) (λ k. refl) refl refl
+    also one _ (λ k. refl) (λ k. refl) refl refl also one _ (λ k. refl) (λ k. refl) refl refl also one _ (λ k. refl) (λ k. refl) refl refl
+    also one _ (λ k. refl) (λ k. refl) refl refl also one _ (λ k. refl) (λ k. refl) refl refl also one _ (λ k. refl) (λ k. refl) refl refl
+    also one _ (λ k. refl) (λ k. refl) refl refl also one _ (λ k. refl) (λ k. refl) refl refl also one _ (λ k. refl) (λ k. refl) refl refl
+    also one _ (λ k. refl) (λ k. refl) refl refl also one _ (λ k. refl) (λ k. refl) refl refl also one _ (λ k. refl) (λ k. refl) refl refl
+    also one _ (λ k. refl) (λ k. refl) refl refl also one _ (λ k. refl) (λ k. refl) refl refl also one _ (λ k. refl) (λ k. refl) refl refl
+    also one _ (λ k. refl) (λ k. refl) refl refl also tt
 
 pub fitting-promise : FittingPromise
-fitting-promise = record { fitted = fitted; ordered = ordered; as-tried = as-tried }
+fitting-promise = record {
+  fitted = fitted;
+  itemed = itemed;
+  ordered = ordered;
+  placed = placed;
+  item-open = item-open;
+  item-full = item-full;
+  no-item = no-item;
+  as-tried = as-tried;
+}

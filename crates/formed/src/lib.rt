@@ -122,8 +122,8 @@ pub fn activity_ok(kind: u32, length: u32, activity: Activity) -> bool
 
 // ---- phase states
 // Whether the numbers of a phase are within their bounds.
-pub fn numbers_ok(kind: u32, length: u32, crew: u32, left: u32) -> bool
-    ensures { λ r. ⌜ r ≡ numbersOk gateway kind length crew left ⌝ }
+pub fn numbers_ok(kind: u32, length: u32, crew: u32) -> bool
+    ensures { λ r. ⌜ r ≡ numbersOk gateway kind length crew ⌝ }
 {
     if !Phase::kind_ok(kind as u64) {
         return false;
@@ -131,10 +131,7 @@ pub fn numbers_ok(kind: u32, length: u32, crew: u32, left: u32) -> bool
     if !Phase::size_ok(length as usize) {
         return false;
     }
-    if !Phase::crew_ok(crew as usize) {
-        return false;
-    }
-    left < length
+    Phase::crew_ok(crew as usize)
 }
 
 // Whether a worker, below the worker count or past it, may have this activity.
@@ -152,7 +149,7 @@ pub fn worker_ok(kind: u32, length: u32, active: bool, activity: Activity) -> bo
 pub fn is_well_formed(phase: Phase) -> bool
     ensures { λ r. ⌜ r ≡ isWellFormed gateway phase ⌝ }
 {
-    if !numbers_ok(phase.kind, phase.length, phase.crew, phase.left) {
+    if !numbers_ok(phase.kind, phase.length, phase.crew) {
         return false;
     }
     let mut i: usize = 0;

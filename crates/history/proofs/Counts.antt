@@ -10,13 +10,15 @@ use borrow.Author.Tests.{lt-ltb}
 use Rattle.ring.specs.Counting.{bit, count}
 use Rattle.ring.proofs.Split.{by-eq}
 use Rattle.prices.specs.Contents.{label}
+use Rattle.orders.specs.Orders.{lineAt}
+use Rattle.orders.specs.declared.Order.{Order}
 use Rattle.rule.specs.Events.{Run, Event, event}
 use Rattle.rule.specs.declared.Answer.{Answer}
 use Rattle.rule.specs.declared.Answer.the-variants.{WentOn, Finished, Price, No}
 use Rattle.rule.specs.declared.Answer.the-variants as answer
 use Rattle.state.specs.Model.{Model}
 use Rattle.state.specs.declared.Phase.{Phase}
-use Rattle.protocol.specs.Calls.{closeReply, orderReply, turnCall, turnTable}
+use Rattle.protocol.specs.Calls.{closeReply, foundReply, turnCall, turnTable}
 use Rattle.protocol.specs.declared.TurnReply.{TurnReply}
 use Rattle.protocol.specs.declared.TurnReply.the-variants as turnReply
 use Rattle.protocol.proofs.Chain.{by-reply}
@@ -42,9 +44,9 @@ turn-adds : (w : ℕ) (t : List ℕ) (p : Phase) (r : TurnReply) (s : History)
 turn-adds w t p (turnReply.Answered a) s h = omega (arith, worked-says a (getD (s .pending) w 0) (h a refl))
 turn-adds w t p (turnReply.Refused r) s h = omega arith
 
-module _ (M : Model) (k n m : ℕ) where
+module _ (M : Model) (os : List Order) (k n m : ℕ) where
   turn-counts : (w : ℕ) (s : History) (r : Run) → Shows k n m s r
-      → call M (turn w) s .counted ≡ bit (worked (turnCall M (s .phase) (s .table) w .reply)) + s .counted
+      → call M os (turn w) s .counted ≡ bit (worked (turnCall M (s .phase) (s .table) w .reply)) + s .counted
   unfolding call
   turn-counts w s r h =
       let u = turnCall M (s .phase) (s .table) w in
@@ -52,21 +54,21 @@ module _ (M : Model) (k n m : ℕ) where
       (λ a e. let i = turns M (s .phase) (s .table) w .answered a e .idle in
       let x = unfinished-says h w in (λ b. x .1 (i .0 b), λ z. i .1 (x .0 z)))
 
-  order-counts : (w v cents : ℕ) (s : History) → call M (order w v cents) s .counted ≡ s .counted
+  order-counts : (i w v : ℕ) (s : History) → call M os (order i w v) s .counted ≡ s .counted
   unfolding call
-  order-counts w v cents s = by-reply (orderReply M (s .phase) w v cents) (λ e. rw e) (λ _ e. rw e)
+  order-counts i w v s = by-reply (foundReply M (s .phase) (lineAt os i) w v) (λ e. rw e) (λ _ e. rw e)
 
-  close-counts : (s : History) → call M close s .counted ≡ s .counted
+  close-counts : (s : History) → call M os close s .counted ≡ s .counted
   unfolding call
   close-counts s = by-reply (closeReply M (s .phase)) (λ e. rw e) (λ _ e. rw e)
 
   -- the counted turns of the list are added to those counted before
   abbrev Counts : List Call → History → Type 0
-  Counts cs s = run M cs s .counted ≡ count worked (turnReplies M cs s) + s .counted
+  Counts cs s = run M os cs s .counted ≡ count worked (turnReplies M os cs s) + s .counted
 
-  one-more : (c : Call) (cs : List Call) (s : History) (r : Run) → Shows k n m s r → Counts cs (call M c s) → Counts (c ∷ cs) s
+  one-more : (c : Call) (cs : List Call) (s : History) (r : Run) → Shows k n m s r → Counts cs (call M os c s) → Counts (c ∷ cs) s
   unfolding run turnReplies count
-  one-more (order w v cents) cs s r h e = omega (arith, order-counts w v cents s)
+  one-more (order i w v) cs s r h e = omega (arith, order-counts i w v s)
   one-more (turn w) cs s r h e = omega (arith, turn-counts w s r h)
   one-more close cs s r h e = omega (arith, close-counts s)
 
@@ -75,10 +77,10 @@ module _ (M : Model) (k n m : ℕ) where
   from [] s r h = omega arith
   from (c ∷ cs) s r h = one-more c cs s r h
       (⊎-elim
-      (λ (g : Shows k n m (call M c s) r). from cs (call M c s) r g)
-      (λ (g : (e : Event) × Shows k n m (call M c s) (event k n label (M .home n) e r)). from cs (call M c s) (event k n label (M .home n) (g .0) r) (g .1))
-      (follows M k n m c s r h))
+      (λ (g : Shows k n m (call M os c s) r). from cs (call M os c s) r g)
+      (λ (g : (e : Event) × Shows k n m (call M os c s) (event k n label (M .home n) e r)). from cs (call M os c s) (event k n label (M .home n) (g .0) r) (g .1))
+      (follows M os k n m c s r h))
 
   -- from a history without counted turns on
-  pub counts : (cs : List Call) (s : History) (r : Run) → Shows k n m s r → s .counted ≡ 0 → run M cs s .counted ≡ count worked (turnReplies M cs s)
+  pub counts : (cs : List Call) (s : History) (r : Run) → Shows k n m s r → s .counted ≡ 0 → run M os cs s .counted ≡ count worked (turnReplies M os cs s)
   counts cs s r h none = omega (arith, from cs s r h)

@@ -2,11 +2,13 @@
 use mathlib.Core.Path.{_≡_, refl}
 use mathlib.Core.List.{List}
 use Prim.Native.Nat.{ℕ, _<_}
+use Rattle.orders.specs.Orders.{lineAt}
+use Rattle.orders.specs.declared.Order.{Order}
 use Rattle.state.specs.Model.{Model}
 use Rattle.state.specs.declared.Phase.{Phase}
 use Rattle.state.specs.declared.Reply.{Reply}
 use Rattle.state.specs.declared.Reply.the-variants.{Accepted, Refused}
-use Rattle.protocol.specs.Calls.{entryFor, closeCall, orderCall, turnCall, turnTable}
+use Rattle.protocol.specs.Calls.{asked, entryFor, closeCall, orderCall, turnCall, turnTable}
 use Rattle.protocol.specs.declared.TurnReply.{TurnReply}
 use Rattle.protocol.specs.declared.TurnReply.the-variants as turnReply
 use Rattle.protocol.specs.WellFormed.{WellFormed}
@@ -43,15 +45,16 @@ close-table p Accepted s = refl
 close-table p (Refused r) s = refl
 
 -- the home rule gives a cell of the table
-pub call-keeps : (M : Model) (c : Call) (s : History) → ((v : ℕ) → M .home (s .phase .length) v < s .phase .length)
-    → WellFormed M (s .phase) → WellFormed M (call M c s .phase)
+pub call-keeps : (M : Model) (os : List Order) (c : Call) (s : History) → ((v : ℕ) → M .home (s .phase .length) v < s .phase .length)
+    → WellFormed M (s .phase) → WellFormed M (call M os c s .phase)
 unfolding call
-call-keeps M (order w v cents) s at-home good =
-    let r = orderCall M (s .phase) w v cents in
-    rw (order-phase w (entryFor (s .phase .kind) v cents) (r .phase) (r .reply) s) (order-keeps M (s .phase) good w v cents (at-home v))
-call-keeps M (turn w) s at-home good =
+call-keeps M os (order i w v) s at-home good =
+    let o = asked (s .phase .kind) (lineAt os i) w v in
+    let r = orderCall M (s .phase) os i w v in
+    rw (order-phase (o .worker) (entryFor (s .phase .kind) (o .key) (o .price)) (r .phase) (r .reply) s) (order-keeps M (s .phase) good at-home os i w v)
+call-keeps M os (turn w) s at-home good =
     let t = turnTable M (s .phase) (s .table) w in
     let r = turnCall M (s .phase) (s .table) w in
     rw (turn-phase w t (r .phase) (r .reply) s) (turn-keeps M (s .phase) good (s .table) w)
-call-keeps M close s at-home good =
+call-keeps M os close s at-home good =
     rw (close-phase (closeCall M (s .phase) .phase) (closeCall M (s .phase) .reply) s) (close-keeps M (s .phase) good)

@@ -6,11 +6,10 @@ use Prim.Native.Nat.{ℕ, _≤_, _<_}
 use native.Mathlib.Omega.{arith}
 use lib.ListN.{length, length-replicate}
 use Rattle.ring.proofs.Split.{by-eq}
-use Rattle.layout.specs.Sound.{vacant}
+use Rattle.orders.specs.declared.Order.{Order}
 use Rattle.rule.specs.Events as events
 use Rattle.rule.proofs.Crew.{replicate-at}
 use Rattle.state.specs.Model.{Model, Proper}
-use Rattle.activities.specs.Kinds.{allowance}
 use Rattle.state.specs.Open.{openReply}
 use Rattle.activities.specs.declared.Activity.the-variants.{Idle}
 use Rattle.state.specs.declared.Reply.the-variants.{Accepted}
@@ -28,36 +27,29 @@ use Rattle.history.proofs.Unordered.{Untouched}
 pub by-kinds {ℓ} : {C : Type ℓ} (k : ℕ) → Kind k → (k ≡ 1 → C) → (k ≡ 2 → C) → (k ≡ 3 → C) → C
 by-kinds k e f g h = by-eq k 1 f (λ a. by-eq k 2 g (λ b. h (omega arith)))
 
-module _ (M : Model) (proper : Proper M) (k m : ℕ) (t : List ℕ) (accepted : openReply M k m t ≡ Accepted) where
+module _ (M : Model) (proper : Proper M) (k m : ℕ) (t : List ℕ) (os : List Order) (accepted : openReply M k m t os ≡ Accepted) where
   some-cells : 0 < length t
-  some-cells = omega (arith, proper .some, open-passed M k m t accepted .0)
+  some-cells = omega (arith, proper .some, open-passed M k m t os accepted .size)
 
   -- homes are cells of the table
   pub homes : (x : ℕ) → M .home (length t) x < length t
   homes x = proper .homes (length t) x some-cells
 
   manned : m ≤ M .room
-  manned = omega (arith, proper .places, open-passed M k m t accepted .1)
+  manned = omega (arith, proper .places, open-passed M k m t os accepted .crew)
 
-  pub resting : Resting M k (length t) m false (opening M k m t .phase)
-  resting = opens M k m t .accepted (rw accepted)
+  pub resting : Resting M k (length t) m false (opening M k m t os .phase)
+  resting = opens M k m t os .accepted (rw accepted)
 
   -- no order yet: the table is as given and all workers are idle
-  pub opening-untouched : Untouched t (opening M k m t)
+  pub opening-untouched : Untouched t (opening M k m t os)
   opening-untouched = record { table = λ _. refl; idle = λ _. resting .rest }
 
   -- no order is accepted yet
-  pub opening-taken : Taken k (vacant t) (opening M k m t)
-  opening-taken =
-      let o = opens M k m t in
-      record {
-        kind = resting .kind;
-        left = λ is. omega (arith, o .insert-left (rw accepted) is);
-        none-left = o .other-left (rw accepted);
-        entries = λ y i. absurd i;
-      }
+  pub opening-taken : Taken k os (opening M k m t os)
+  opening-taken = record { kind = resting .kind; entries = λ y i. absurd i; lines = λ is y i. absurd i }
 
-  pub opening-shows : Shows k (length t) m (opening M k m t) (events.opened m t)
+  pub opening-shows : Shows k (length t) m (opening M k m t os) (events.opened m t)
   opening-shows = rw accepted
       (record {
         kind = refl;
@@ -67,7 +59,7 @@ module _ (M : Model) (proper : Proper M) (k m : ℕ) (t : List ℕ) (accepted : 
           records = rw length-replicate manned;
           places = rw length-replicate manned;
           all = length-replicate m Idle;
-          same = λ w. fresh-resting M k (length t) m (allowance k t) false .rest w ∙ sym (replicate-at Idle m w);
+          same = λ w. fresh-resting M k (length t) m false .rest w ∙ sym (replicate-at Idle m w);
           agree = λ w. rw (replicate-at {A = ℕ} 0 (M .room) w, replicate-at Idle m w) (agrees-idle k);
         };
         table = refl;

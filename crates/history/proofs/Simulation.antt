@@ -2,7 +2,7 @@
 use mathlib.Core.Path.{_≡_, refl, sym, ap, ap₂, _∙_}
 use mathlib.Core.Logic.{_≢_, _↔_, _⊎_, inl, inr, ⊎-elim}
 use mathlib.Core.Bool.{true, false}
-use mathlib.Core.List.{List, [], _∷_, _++_}
+use mathlib.Core.List.{List, [], _∷_, _++_, map}
 use Prim.Native.Nat.{ℕ, _+_, _<_}
 use native.Mathlib.Omega.{arith}
 use lib.Dec.{ltb}
@@ -10,6 +10,8 @@ use lib.ListN.{length, getD, set}
 use borrow.Author.Tests.{lt-ltb}
 use Rattle.ring.specs.Counting.{bit}
 use Rattle.prices.specs.Contents.{label}
+use Rattle.orders.specs.Orders.{lineAt}
+use Rattle.orders.specs.declared.Order.{Order}
 use Rattle.rule.specs.Events as events
 use Rattle.activities.specs.Activities.{busy, entryOf}
 use Rattle.rule.specs.Events.{Run, Event, worker, AllIdle, tells, steppedAt, stepped, accepts, event}
@@ -23,13 +25,13 @@ use Rattle.activities.specs.declared.Activity.{Activity}
 use Rattle.activities.specs.declared.Activity.the-variants.{Idle}
 use Rattle.state.specs.declared.Reply.the-variants.{Accepted}
 use Rattle.protocol.specs.Bars.{doing}
-use Rattle.protocol.specs.Calls.{entryFor, withWorker, closeReply, orderReply, turnCheck, movedAt, cellsAt}
+use Rattle.protocol.specs.Calls.{asked, entryFor, withWorker, closeReply, foundReply, turnCheck, movedAt, cellsAt}
 use Rattle.protocol.specs.declared.TurnReply.the-variants as turnReply
 use Rattle.protocol.proofs.Chain.{by-reply}
 use Rattle.protocol.proofs.Pricing.{entry-key}
 use Rattle.ring.proofs.Tests.{not-both}
 use Rattle.protocol.proofs.Theorem.{order-passed, close-passed, turn-passed}
-use Rattle.history.specs.History.{Call, order, turn, close, History, afterTurn, call, run}
+use Rattle.history.specs.History.{Call, order, turn, close, History, afterTurn, call, run, Lent, runLent}
 use Rattle.history.proofs.Pending.{Agrees, agrees-rest, agrees-start, agrees-step, entryLeft, Crew, crew-set, crew-left}
 
 -- s, in a phase opened with kind k, n cells and m workers, is r with a phase state around it
@@ -49,13 +51,13 @@ pub record Shows (k n m : ℕ) (s : History) (r : Run) : Type 0 where
 pub unfinished-says : {k n m : ℕ} {s : History} {r : Run} → Shows k n m s r → (w : ℕ) → (getD (s .pending) w 0 ≡ 0) ↔ (doing (s .phase) w ≡ Idle)
 unfinished-says {k} {s} {r} h w = rw (h .crew .same w) (agrees-rest k (getD (s .pending) w 0) (getD (r .workers) w Idle) (h .crew .agree w))
 
-module _ (M : Model) (k n m : ℕ) where
+module _ (M : Model) (os : List Order) (k n m : ℕ) where
   -- s shows r, or what one event makes of it
   abbrev Follows : History → Run → Type 0
   Follows s r = Shows k n m s r ⊎ ((e : Event) × Shows k n m s (event k n label (M .home n) e r))
 
   -- ---- close
-  close-shows : (s : History) (r : Run) → Shows k n m s r → Shows k n m (call M close s) r
+  close-shows : (s : History) (r : Run) → Shows k n m s r → Shows k n m (call M os close s) r
   unfolding call
   close-shows s r h = by-reply (closeReply M (s .phase))
       (λ e. let (_, _, idle) = close-passed M (s .phase) e in
@@ -80,21 +82,29 @@ module _ (M : Model) (k n m : ℕ) where
   unfolding event accepts
   order-is r w x l is nz = rw (lt-ltb w (length (r .workers)) l, is, lt-ltb 0 (label x) (omega arith))
 
-  order-shows : (s : History) (r : Run) (w v cents : ℕ) → Shows k n m s r → orderReply M (s .phase) w v cents ≡ Accepted
-      → Shows k n m (call M (order w v cents) s) (event k n label (M .home n) (events.order w (entryFor k v cents)) r)
+  -- what an order call asks for
+  abbrev at : History → (i w v : ℕ) → Order
+  at s i w v = asked (s .phase .kind) (lineAt os i) w v
+
+  abbrev entry : History → (i w v : ℕ) → ℕ
+  entry s i w v = entryFor (s .phase .kind) (at s i w v .key) (at s i w v .price)
+
+  order-shows : (s : History) (r : Run) (i w v : ℕ) → Shows k n m s r → foundReply M (s .phase) (lineAt os i) w v ≡ Accepted
+      → Shows k n m (call M os (order i w v) s) (event k n label (M .home n) (events.order (at s i w v .worker) (entry s i w v)) r)
   unfolding call events.ordered
-  order-shows s r w v cents h e =
-      let q = order-passed M (s .phase) w v cents e in
-      let l : w < m = omega (arith, h .count, q .below) in
-      let x : ℕ = entryFor k v cents in
-      let nz : label x ≢ 0 = λ z. q .key (sym (entry-key k v cents (λ is. q .price (h .kind ∙ is))) ∙ z) in
-      rw (e, h .kind, order-is r w x (omega (arith, h .crew .all)) (sym (h .crew .same w) ∙ q .free) nz)
+  order-shows s r i w v h e =
+      let q = order-passed M (s .phase) os i w v e in
+      let u = at s i w v .worker in
+      let l : u < m = omega (arith, h .count, q .below) in
+      let x : ℕ = entry s i w v in
+      let nz : label x ≢ 0 = λ z. q .key (sym (entry-key (s .phase .kind) (at s i w v .key) (at s i w v .price) (q .price)) ∙ z) in
+      rw (e, order-is r u x (omega (arith, h .crew .all)) (sym (h .crew .same u) ∙ q .free) nz)
       (record {
-        kind = refl;
+        kind = h .kind;
         cells = h .cells;
         count = h .count;
         crew = rw (h .cells)
-            (crew-set k m (s .phase .workers) (s .pending) (r .workers) w x (start label (M .home n) x) l
+            (crew-set k m (s .phase .workers) (s .pending) (r .workers) u x (start label (M .home n) x) l
             (agrees-start k label (M .home n) x (λ z. nz (ap label z))) (h .crew));
         table = h .table;
         ordered = ap (_∷_ x) (h .ordered);
@@ -153,7 +163,7 @@ module _ (M : Model) (k n m : ℕ) where
       (agrees-step k n label (M .home n) (getD (s .pending) w 0) a (getD (r .table) c 0) before))
 
   pub turn-shows : (s : History) (r : Run) (w : ℕ) → Shows k n m s r → turnCheck M (s .phase) (s .table) w ≡ Accepted
-      → Shows k n m (call M (turn w) s) (event k n label (M .home n) (events.step w) r)
+      → Shows k n m (call M os (turn w) s) (event k n label (M .home n) (events.step w) r)
   unfolding call
   turn-shows s r w h e =
       let (_, running, _, below) = turn-passed M (s .phase) (s .table) w e in
@@ -162,19 +172,37 @@ module _ (M : Model) (k n m : ℕ) where
       (turned-shows s r w (touched (doing (s .phase) w)) h running l refl)
 
   -- ---- every call, and every list of calls
-  pub follows : (c : Call) (s : History) (r : Run) → Shows k n m s r → Follows (call M c s) r
+  pub follows : (c : Call) (s : History) (r : Run) → Shows k n m s r → Follows (call M os c s) r
   unfolding call
-  follows (order w v cents) s r h =
-      by-reply (orderReply M (s .phase) w v cents) (λ e. inr (events.order w (entryFor k v cents), order-shows s r w v cents h e)) (λ _ e. inl (rw e h))
+  follows (order i w v) s r h =
+      by-reply (foundReply M (s .phase) (lineAt os i) w v) (λ e. inr (events.order (at s i w v .worker) (entry s i w v), order-shows s r i w v h e)) (λ _ e. inl (rw e h))
   follows (turn w) s r h =
       by-reply (turnCheck M (s .phase) (s .table) w) (λ e. inr (events.step w, turn-shows s r w h e)) (λ _ e. inl (rw e h))
   follows close s r h = inl (close-shows s r h)
 
-  pub simulates : (cs : List Call) (s : History) (r : Run) → Shows k n m s r → (es : List Event) × Shows k n m (run M cs s) (events.run k n label (M .home n) es r)
-  unfolding run events.run
-  simulates [] s r h = ([], h)
-  simulates (c ∷ cs) s r h = ⊎-elim
-      (λ (g : Shows k n m (call M c s) r). simulates cs (call M c s) r g)
-      (λ (g : (e : Event) × Shows k n m (call M c s) (event k n label (M .home n) e r)).
-      let (es, f) = simulates cs (call M c s) (event k n label (M .home n) (g .0) r) (g .1) in (g .0 ∷ es, f))
-      (follows c s r h)
+-- ---- every list of calls, also where each is lent a list of its own
+module _ (M : Model) (k n m : ℕ) where
+  pub simulates-lent : (cs : List Lent) (s : History) (r : Run) → Shows k n m s r
+      → (es : List Event) × Shows k n m (runLent M cs s) (events.run k n label (M .home n) es r)
+  unfolding runLent events.run
+  simulates-lent [] s r h = ([], h)
+  simulates-lent (c ∷ cs) s r h =
+      let u = call M (c .list) (c .asks) s in
+      ⊎-elim
+      (λ (g : Shows k n m u r). simulates-lent cs u r g)
+      (λ (g : (e : Event) × Shows k n m u (event k n label (M .home n) e r)).
+      let (es, f) = simulates-lent cs u (event k n label (M .home n) (g .0) r) (g .1) in (g .0 ∷ es, f))
+      (follows M (c .list) k n m (c .asks) s r h)
+
+  -- a call that is lent os
+  abbrev lends : List Order → Call → Lent
+  lends os c = record { list = os; asks = c }
+
+  run-lends : (os : List Order) (cs : List Call) (s : History) → runLent M (map (lends os) cs) s ≡ run M os cs s
+  unfolding run runLent
+  run-lends os [] s = refl
+  run-lends os (c ∷ cs) s = run-lends os cs (call M os c s)
+
+  pub simulates : (os : List Order) (cs : List Call) (s : History) (r : Run) → Shows k n m s r
+      → (es : List Event) × Shows k n m (run M os cs s) (events.run k n label (M .home n) es r)
+  simulates os cs s r h = let (es, f) = simulates-lent (map (lends os) cs) s r h in (es, rw (run-lends os cs s) at f)

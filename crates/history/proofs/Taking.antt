@@ -1,32 +1,32 @@
--- The accepted orders: each could be accepted, and in an insert phase they and those left are as many in all as at the opening.
+-- The accepted orders: each could be accepted, and in an insert phase each is of a line of the list.
 use mathlib.Core.Path.{_≡_, sym, ap, _∙_, subst}
 use mathlib.Core.Logic.{_≢_, ⊎-elim}
 use mathlib.Core.List.{List, [], _∷_}
-use Prim.Native.Nat.{ℕ, suc, _+_, _≤_}
+use Prim.Native.Nat.{ℕ, _≤_}
 use native.Mathlib.Omega.{arith}
-use lib.ListN.{length}
-use borrow.Author.Tests.{eq-eqb, ne-eqb}
-use Rattle.ring.proofs.Split.{by-eq}
+use lib.ListN.{length, getD}
+use borrow.Author.Tests.{eq-eqb}
 use Rattle.layout.specs.Layout.{In}
-use Rattle.prices.specs.Contents.{price}
+use Rattle.prices.specs.Contents.{label, price, content}
 use Rattle.prices.proofs.Contents.{contents}
+use Rattle.orders.specs.Orders.{blank, lineAt}
+use Rattle.orders.specs.declared.Order.{Order}
 use Rattle.state.specs.Model.{Model}
 use Rattle.state.specs.declared.Phase.{Phase}
 use Rattle.state.specs.declared.Reply.the-variants.{Accepted}
-use Rattle.protocol.specs.Calls.{entryFor, closeReply, orderReply, turnCall, turnTable}
+use Rattle.protocol.specs.Calls.{asked, entryFor, closeReply, foundReply, turnCall, turnTable}
 use Rattle.protocol.proofs.Chain.{by-reply}
 use Rattle.protocol.proofs.Pricing.{entry-priced, entry-bare, entry-key}
-use Rattle.protocol.proofs.Theorem.{order-passed, turns}
+use Rattle.protocol.proofs.Theorem.{Passed, order-passed, turns}
 use Rattle.history.specs.History.{Call, order, turn, close, History, afterTurn, call, run}
-use Rattle.history.specs.Promise.{Acceptable}
+use Rattle.history.specs.Promise.{Acceptable, OfLine}
 use Rattle.history.proofs.Keeping.{turn-phase, turn-ordered}
 
--- in a phase of kind k that takes e - 1 orders
-pub record Taken (k e : ℕ) (s : History) : Type 0 where
+-- in a phase of kind k, by calls that are lent the list os
+pub record Taken (k : ℕ) (os : List Order) (s : History) : Type 0 where
   pub kind : s .phase .kind ≡ k
-  pub left : k ≡ 1 → suc (length (s .ordered) + s .phase .left) ≡ e
-  pub none-left : k ≢ 1 → s .phase .left ≡ 0
   pub entries : (y : ℕ) → In y (s .ordered) → Acceptable k y
+  pub lines : k ≡ 1 → (y : ℕ) → In y (s .ordered) → OfLine os y
 
 -- an order of key v, with a price
 entry-acceptable : (k v cents : ℕ) → v ≢ 0 → (k ≡ 1 → (1 ≤ cents) × (cents ≤ 9999999)) → Acceptable k (entryFor k v cents)
@@ -37,50 +37,61 @@ entry-acceptable k v cents nz ok =
       unpriced = λ ne. ap price (entry-bare k v cents ne) ∙ contents .made v 0 (omega arith) .1;
     }
 
-module _ (M : Model) (k e : ℕ) where
-  order-taken : (s : History) (w v cents : ℕ) → Taken k e s → orderReply M (s .phase) w v cents ≡ Accepted → Taken k e (call M (order w v cents) s)
+module _ (M : Model) (k : ℕ) (os : List Order) where
+  -- an accepted order of an insert phase is of its line
+  of-line : {p : Phase} → p .kind ≡ 1 → (i w v : ℕ) → Passed M p os i w v
+      → OfLine os (entryFor (p .kind) (asked (p .kind) (lineAt os i) w v .key) (asked (p .kind) (lineAt os i) w v .price))
+  of-line {p} is i w v q =
+      let o = getD os i blank in
+      let same : asked (p .kind) (lineAt os i) w v ≡ o = rw (eq-eqb (p .kind) 1 is) in
+      let (low, high) = subst (λ (x : Order). (1 ≤ x .price) × (x .price ≤ 9999999)) same (q .price is) in
+      let made = contents .made (o .key) (o .price) (omega arith) in
+      let entry : entryFor (p .kind) (asked (p .kind) (lineAt os i) w v .key) (asked (p .kind) (lineAt os i) w v .price) ≡ content (o .key) (o .price)
+      = rw (eq-eqb (p .kind) 1 is) in
+      record { line = i; inside = q .there is; is = ap label entry ∙ made .0; costs = ap price entry ∙ made .1 }
+
+  order-taken : (s : History) (i w v : ℕ) → Taken k os s → foundReply M (s .phase) (lineAt os i) w v ≡ Accepted → Taken k os (call M os (order i w v) s)
   unfolding call
-  order-taken s w v cents h ok =
-      let q = order-passed M (s .phase) w v cents ok in
+  order-taken s i w v h ok =
+      let q = order-passed M (s .phase) os i w v ok in
+      let o = asked (s .phase .kind) (lineAt os i) w v in
+      let x = entryFor (s .phase .kind) (o .key) (o .price) in
       rw ok
       (record {
         kind = h .kind;
-        left = λ is. rw (eq-eqb (s .phase .kind) 1 (h .kind ∙ is))
-            (by-eq (s .phase .left) 0 (λ z. absurd (q .left (h .kind ∙ is, z))) (λ z. omega (arith, h .left is)));
-        none-left = λ ne. rw (ne-eqb (s .phase .kind) 1 (λ z. ne (sym (h .kind) ∙ z))) (h .none-left ne);
-        entries = λ y i. ⊎-elim
-            (λ (z : y ≡ entryFor (s .phase .kind) v cents). rw (z, h .kind) (entry-acceptable k v cents (q .key) (λ is. q .price (h .kind ∙ is))))
-            (h .entries y) i;
+        entries = λ y j. ⊎-elim
+            (λ (z : y ≡ x). rw (z, ← h .kind) (entry-acceptable (s .phase .kind) (o .key) (o .price) (q .key) (q .price)))
+            (h .entries y) j;
+        lines = λ is y j. ⊎-elim
+            (λ (z : y ≡ x). rw z (of-line (h .kind ∙ is) i w v q))
+            (h .lines is y) j;
       })
 
-  turn-taken : (s : History) (w : ℕ) → Taken k e s → Taken k e (call M (turn w) s)
+  turn-taken : (s : History) (w : ℕ) → Taken k os s → Taken k os (call M os (turn w) s)
   unfolding call
   turn-taken s w h =
       let r = turnCall M (s .phase) (s .table) w in
       let u = turnTable M (s .phase) (s .table) w in
       let o = turns M (s .phase) (s .table) w in
-      let l : length (afterTurn w u (r .phase) (r .reply) s .ordered) ≡ length (s .ordered) = ap length (turn-ordered w u (r .phase) (r .reply) s) in
-      let p = turn-phase w u (r .phase) (r .reply) s in
-      let left : afterTurn w u (r .phase) (r .reply) s .phase .left ≡ s .phase .left = ap (λ (q : Phase). q .left) p ∙ o .left in
+      let same = turn-ordered w u (r .phase) (r .reply) s in
       record {
-        kind = ap (λ (q : Phase). q .kind) p ∙ o .others .frame .kind ∙ h .kind;
-        left = λ is. omega (arith, l, left, h .left is);
-        none-left = λ ne. left ∙ h .none-left ne;
-        entries = λ y i. h .entries y (subst (In y) (turn-ordered w u (r .phase) (r .reply) s) i);
+        kind = ap (λ (q : Phase). q .kind) (turn-phase w u (r .phase) (r .reply) s) ∙ o .others .frame .kind ∙ h .kind;
+        entries = λ y i. h .entries y (subst (In y) same i);
+        lines = λ is y i. h .lines is y (subst (In y) same i);
       }
 
-  close-taken : (s : History) → Taken k e s → Taken k e (call M close s)
+  close-taken : (s : History) → Taken k os s → Taken k os (call M os close s)
   unfolding call
   close-taken s h = by-reply (closeReply M (s .phase))
-      (λ ok. rw ok (record { kind = h .kind; left = h .left; none-left = h .none-left; entries = h .entries })) (λ _ ok. rw ok h)
+      (λ ok. rw ok (record { kind = h .kind; entries = h .entries; lines = h .lines })) (λ _ ok. rw ok h)
 
-  call-taken : (c : Call) (s : History) → Taken k e s → Taken k e (call M c s)
+  call-taken : (c : Call) (s : History) → Taken k os s → Taken k os (call M os c s)
   unfolding call
-  call-taken (order w v cents) s h = by-reply (orderReply M (s .phase) w v cents) (order-taken s w v cents h) (λ _ ok. rw ok h)
+  call-taken (order i w v) s h = by-reply (foundReply M (s .phase) (lineAt os i) w v) (order-taken s i w v h) (λ _ ok. rw ok h)
   call-taken (turn w) s h = turn-taken s w h
   call-taken close s h = close-taken s h
 
-  pub run-taken : (cs : List Call) (s : History) → Taken k e s → Taken k e (run M cs s)
+  pub run-taken : (cs : List Call) (s : History) → Taken k os s → Taken k os (run M os cs s)
   unfolding run
   run-taken [] s h = h
-  run-taken (c ∷ cs) s h = run-taken cs (call M c s) (call-taken c s h)
+  run-taken (c ∷ cs) s h = run-taken cs (call M os c s) (call-taken c s h)

@@ -5,11 +5,13 @@ use mathlib.Core.List.{List, [], _∷_}
 use Prim.Native.Nat.{ℕ}
 use native.Mathlib.Omega.{arith}
 use Rattle.activities.specs.declared.Activity.the-variants.{Idle}
+use Rattle.orders.specs.Orders.{lineAt}
+use Rattle.orders.specs.declared.Order.{Order}
 use Rattle.state.specs.Model.{Model}
 use Rattle.state.specs.declared.Phase.{Phase}
 use Rattle.state.specs.declared.Reply.the-variants.{Accepted}
 use Rattle.protocol.specs.Bars.{doing}
-use Rattle.protocol.specs.Calls.{entryFor, closeReply, orderReply, turnCall, turnTable}
+use Rattle.protocol.specs.Calls.{asked, entryFor, closeReply, foundReply, turnCall, turnTable}
 use Rattle.protocol.specs.IsWellFormed.{isWellFormed}
 use Rattle.protocol.proofs.Chain.{by-reply}
 use Rattle.protocol.proofs.Theorem.{turns}
@@ -25,11 +27,13 @@ pub record Untouched (t : List ℕ) (s : History) : Type 0 where
 no-first : (x : ℕ) (l : List ℕ) → x ∷ l ≡ [] → ⊥
 no-first x l z = let one : _≡_ {A = ℕ} 0 1 = cc in omega arith
 
-module _ (M : Model) (t : List ℕ) where
-  call-untouched : (c : Call) (s : History) → Untouched t s → Untouched t (call M c s)
+module _ (M : Model) (os : List Order) (t : List ℕ) where
+  call-untouched : (c : Call) (s : History) → Untouched t s → Untouched t (call M os c s)
   unfolding call
-  call-untouched (order w v cents) s h = let none = no-first (entryFor (s .phase .kind) v cents) (s .ordered) in
-      by-reply (orderReply M (s .phase) w v cents)
+  call-untouched (order i w v) s h =
+      let o = asked (s .phase .kind) (lineAt os i) w v in
+      let none = no-first (entryFor (s .phase .kind) (o .key) (o .price)) (s .ordered) in
+      by-reply (foundReply M (s .phase) (lineAt os i) w v)
       (λ e. rw e (record { table = λ z. absurd (none z); idle = λ z. absurd (none z) }))
       (λ _ e. rw e h)
   call-untouched (turn w) s h =
@@ -44,10 +48,10 @@ module _ (M : Model) (t : List ℕ) where
       }
   call-untouched close s h = by-reply (closeReply M (s .phase)) (λ e. rw e (record { table = h .table; idle = h .idle })) (λ _ e. rw e h)
 
-  pub run-untouched : (cs : List Call) (s : History) → Untouched t s → Untouched t (run M cs s)
+  pub run-untouched : (cs : List Call) (s : History) → Untouched t s → Untouched t (run M os cs s)
   unfolding run
   run-untouched [] s h = h
-  run-untouched (c ∷ cs) s h = run-untouched cs (call M c s) (call-untouched c s h)
+  run-untouched (c ∷ cs) s h = run-untouched cs (call M os c s) (call-untouched c s h)
 
 -- a close is accepted where the phase state is well formed and open, and all workers are idle
 pub close-accepted : (M : Model) (p : Phase) → isWellFormed M p ≡ true → p .shut ≡ false → ((w : ℕ) → doing p w ≡ Idle) → closeReply M p ≡ Accepted

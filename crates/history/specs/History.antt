@@ -1,4 +1,5 @@
--- Lists of calls on one phase: each call gets the phase state that the last one returned, each turn also the table as the last turn left it.
+-- Lists of calls on one phase: each call gets the phase state that the last one returned, each turn also the table as the last turn left it, each order
+-- the list of orders that the opening was lent.
 -- The calls are the very definitions that the functions' contracts name.
 use mathlib.Core.Bool.{Bool, true, false, cond}
 use mathlib.Core.List.{List, [], _∷_, _++_}
@@ -6,6 +7,8 @@ use Prim.Native.Nat.{ℕ, _+_}
 use lib.Dec.{ltb}
 use lib.ListN.{getD, set, replicate}
 use Rattle.ring.specs.Counting.{bit}
+use Rattle.orders.specs.Orders.{lineAt}
+use Rattle.orders.specs.declared.Order.{Order}
 use Rattle.rule.specs.declared.Answer.{Answer}
 use Rattle.rule.specs.declared.Answer.the-variants.{WentOn, Finished, Price, No}
 use Rattle.rule.specs.declared.Answer.the-variants as answer
@@ -17,11 +20,11 @@ use Rattle.state.specs.declared.Reply.{Reply}
 use Rattle.state.specs.declared.Reply.the-variants.{Accepted, Refused}
 use Rattle.protocol.specs.declared.TurnReply.{TurnReply}
 use Rattle.protocol.specs.declared.TurnReply.the-variants as turnReply
-use Rattle.protocol.specs.Calls.{entryFor, closeCall, orderCall, turnCall, turnTable}
+use Rattle.protocol.specs.Calls.{asked, entryFor, closeCall, orderCall, turnCall, turnTable}
 
 pub data Call : Type 0 where
-  -- of key v, with its price, to worker w
-  order : (w v cents : ℕ) → Call
+  -- by line i of the list, or for worker w and key v handed in
+  order : (i w v : ℕ) → Call
   turn : (w : ℕ) → Call
   close : Call
 
@@ -106,9 +109,12 @@ worked (turnReply.Answered No) = true
 worked (turnReply.Answered answer.Idle) = false
 worked (turnReply.Refused r) = false
 
-module _ (M : Model) where
+module _ (M : Model) (os : List Order) where
   unfoldable pub call : Call → History → History
-  call (order w v cents) s = let r = orderCall M (s .phase) w v cents in afterOrder w (entryFor (s .phase .kind) v cents) (r .phase) (r .reply) s
+  call (order i w v) s =
+      let o = asked (s .phase .kind) (lineAt os i) w v in
+      let r = orderCall M (s .phase) os i w v in
+      afterOrder (o .worker) (entryFor (s .phase .kind) (o .key) (o .price)) (r .phase) (r .reply) s
   call (turn w) s = let r = turnCall M (s .phase) (s .table) w in afterTurn w (turnTable M (s .phase) (s .table) w) (r .phase) (r .reply) s
   call close s = let r = closeCall M (s .phase) in afterClose (r .phase) (r .reply) s
 
@@ -120,15 +126,26 @@ module _ (M : Model) where
   -- the answers of the turns of such a list, the first one first
   unfoldable pub turnReplies : List Call → History → List TurnReply
   turnReplies [] s = []
-  turnReplies (order w v cents ∷ cs) s = turnReplies cs (call (order w v cents) s)
+  turnReplies (order i w v ∷ cs) s = turnReplies cs (call (order i w v) s)
   turnReplies (turn w ∷ cs) s = turnCall M (s .phase) (s .table) w .reply ∷ turnReplies cs (call (turn w) s)
   turnReplies (close ∷ cs) s = turnReplies cs (call close s)
 
-  -- from an opening of kind k with m workers on the table t
-  abbrev pub opening : ℕ → ℕ → List ℕ → History
-  opening k m t = record {
+-- ---- a call with a list of its own to be lent, which need not be that of the opening
+pub record Lent : Type 0 where
+  pub list : List Order
+  pub asks : Call
+
+-- a list of such calls
+unfoldable pub runLent : Model → List Lent → History → History
+runLent M [] s = s
+runLent M (c ∷ cs) s = runLent M cs (call M (c .list) (c .asks) s)
+
+-- ---- from an opening of kind k with m workers on the table t, lent the list os
+module _ (M : Model) (k m : ℕ) (t : List ℕ) (os : List Order) where
+  abbrev pub opening : History
+  opening = record {
     table = t;
-    phase = openCall M k m t .phase;
+    phase = openCall M k m t os .phase;
     ordered = [];
     pending = replicate (M .room) 0;
     said = [];
@@ -136,5 +153,8 @@ module _ (M : Model) where
     closed = false;
   }
 
-  abbrev pub after : ℕ → ℕ → List ℕ → List Call → History
-  after k m t cs = run cs (opening k m t)
+  abbrev pub after : List Call → History
+  after cs = run M os cs opening
+
+  abbrev pub afterLent : List Lent → History
+  afterLent cs = runLent M cs opening

@@ -12,7 +12,7 @@ use Rattle.ring.proofs.Split.{by-eq}
 use Rattle.layout.specs.Layout.{In}
 use Rattle.layout.specs.Sound.{look, Holds, Paths}
 use Rattle.layout.proofs.Full.{spare-cell}
-use Rattle.layout.proofs.Path.{Grows, On, set-grows, replace-paths, replaced, on-home, on-grows, on-next, passed}
+use Rattle.layout.proofs.Path.{Grows, On, set-grows, replace-paths, replaced, on-home, on-grows, on-round, passed}
 use Rattle.layout.proofs.Sets.{in-holds, in-append, subset-size}
 use Rattle.prices.specs.Priced.{labels}
 use Rattle.prices.proofs.Labels.{map-set, in-labels, labels-in, label-at}
@@ -169,9 +169,9 @@ module _ (n W : ℕ) (key home : ℕ → ℕ) (rules : Rules n key home) (t : Li
       here-label : getD ls i 0 ≡ key (getD (s .table) i 0)
       here-label = label-at key kz (s .table) i
 
-      reads-on : Roomy n key t s → key v < key (getD (s .table) i 0) → Next (Reading v i) (goes (Reading v (next n i)) (getD (s .table) i 0))
-      reads-on few l = keeps-on (Reading v i) (Reading v (next n i)) WentOn is refl
-          (on-next n home hb ls (key v) i (o .inside) (empty s fair few) (passed n home hb ls (key v) i o (omega (arith, here-label))) (o .key))
+      reads-on : key v < key (getD (s .table) i 0) → Next (Reading v i) (goes (Reading v (next n i)) (getD (s .table) i 0))
+      reads-on l = keeps-on (Reading v i) (Reading v (next n i)) WentOn is refl
+          (on-round n home hb ls (key v) i (o .inside) (passed n home hb ls (key v) i o (omega (arith, here-label))) (o .key))
 
       -- the label stands there already, at no higher price
       finishes : key (getD (s .table) i 0) ≡ key v → getD (s .table) i 0 ≤ v → Next (Reading v i) (ends Finished (getD (s .table) i 0))
@@ -270,13 +270,10 @@ module _ (n W : ℕ) (key home : ℕ → ℕ) (rules : Rules n key home) (t : Li
           fills : key x ≡ 0 → Next (Replacing v i j x) (ends Finished v)
           fills z = relabels Idle Finished (sym (sym held ∙ fair .whole i (ap key held ∙ z))) tt
 
-          displaces : Roomy n key t s → key x ≢ 0 → Next (Replacing v i j x) (goes (Reading x (next n i)) v)
-          displaces few nz =
-              let e = empty s fair few in
-              let free : e .cell ≢ i = λ z. nz (sym label-held ∙ ap (λ (c : ℕ). getD ls c 0) (sym z) ∙ e .is) in
+          displaces : key x ≢ 0 → Next (Replacing v i j x) (goes (Reading x (next n i)) v)
+          displaces nz =
               relabels (Reading x (next n i)) WentOn refl (rw relabelled
-              (on-next n home hb us (key x) i (o .inside)
-              (record { cell = e .cell; inside = e .inside; is = getD-set-other ls i (e .cell) (key v) 0 free ∙ e .is })
+              (on-round n home hb us (key x) i (o .inside)
               (rw here at (replaced n home hb ls long (fair .paths) (key v) (dist n (home (key v)) i) (dist-lt n (home (key v)) (hb (key v)) i (o .inside)) (o .ahead) smaller (key x) nz
               (rw here label-held))) nz))
 
@@ -284,25 +281,25 @@ module _ (n W : ℕ) (key home : ℕ → ℕ) (rules : Rules n key home) (t : Li
       finishes-on : Yields key v x → getD (s .table) i 0 ≡ x → key x ≡ 0 → Next (Replacing v i j x) (ends Finished v)
       finishes-on y held z = fills held (⊎-elim (λ l. l) (λ (e, _). absurd (o .key (sym e ∙ z))) y) z
 
-      carries-on : Roomy n key t s → Yields key v x → getD (s .table) i 0 ≡ x → key x ≢ 0 → (key x ≡ key v → x ≤ v) → Next (Replacing v i j x) (goes (Reading x (next n i)) v)
-      carries-on few y held nz no-less = displaces held (⊎-elim (λ l. l) (λ (e, l). let g : x ≤ v = no-less e in absurd (omega arith)) y) few nz
+      carries-on : Yields key v x → getD (s .table) i 0 ≡ x → key x ≢ 0 → (key x ≡ key v → x ≤ v) → Next (Replacing v i j x) (goes (Reading x (next n i)) v)
+      carries-on y held nz no-less = displaces held (⊎-elim (λ l. l) (λ (e, l). let g : x ≤ v = no-less e in absurd (omega arith)) y) nz
 
     -- ---- any step
-    by-activity : Roomy n key t s → (a : Activity) → worker s w ≡ a → Shape n key home (s .table) a → Next a (rule 1 n key home a (getD (s .table) (cellOf a) 0))
+    by-activity : (a : Activity) → worker s w ≡ a → Shape n key home (s .table) a → Next a (rule 1 n key home a (getD (s .table) (cellOf a) 0))
     unfolding rule insertStep
-    by-activity few Idle is sh = keeps-on Idle Idle answer.Idle is refl tt
-    by-activity few (Reading v i) is o =
-        reading-by n key home (Next (Reading v i)) v i (getD (s .table) i 0) (reads-on v i is o few) (finishes v i is o) (sees v i is o)
-    by-activity few (Replacing v i j x) is (o, jn, y) =
+    by-activity Idle is sh = keeps-on Idle Idle answer.Idle is refl tt
+    by-activity (Reading v i) is o =
+        reading-by n key home (Next (Reading v i)) v i (getD (s .table) i 0) (reads-on v i is o) (finishes v i is o) (sees v i is o)
+    by-activity (Replacing v i j x) is (o, jn, y) =
         replacing-by n key home (Next (Replacing v i j x)) v i j x (getD (s .table) i 0)
-        (finishes-on v i j x is o y) (λ h _. reprices v i j x is o h) (carries-on v i j x is o few y) (λ _. fails v i j x is o)
-    by-activity few (WalkingBack v k) is sh = absurd sh
-    by-activity few (SeekingForward v k j) is sh = absurd sh
-    by-activity few (SeekingBack p v k j x) is sh = absurd sh
+        (finishes-on v i j x is o y) (λ h _. reprices v i j x is o h) (carries-on v i j x is o y) (λ _. fails v i j x is o)
+    by-activity (WalkingBack v k) is sh = absurd sh
+    by-activity (SeekingForward v k j) is sh = absurd sh
+    by-activity (SeekingBack p v k j x) is sh = absurd sh
 
-    pub step-keeps : Roomy n key t s → Fair n W key home t (moved 1 n key home s w) × Grows (labels key (s .table)) (labels key (moved 1 n key home s w .table))
+    pub step-keeps : Fair n W key home t (moved 1 n key home s w) × Grows (labels key (s .table)) (labels key (moved 1 n key home s w .table))
     unfolding moved
-    step-keeps few = by-activity few (worker s w) refl (fair .shape w)
+    step-keeps = by-activity (worker s w) refl (fair .shape w)
 
   -- ---- any event
   order-grows : (s : Run) (w v : ℕ) → Grows (labels key (s .table)) (labels key (ordered 1 n key home s w v .table))
@@ -310,18 +307,18 @@ module _ (n W : ℕ) (key home : ℕ → ℕ) (rules : Rules n key home) (t : Li
   order-grows s w v j = omega arith
 
   -- what fits in the end fits before
-  pub few-order : (s : Run) (w v : ℕ) → Roomy n key t (ordered 1 n key home s w v) → Roomy n key t s
+  few-order : (s : Run) (w v : ℕ) → Roomy n key t (ordered 1 n key home s w v) → Roomy n key t s
   unfolding ordered
   few-order s w v f = omega (arith, subset-size (labels key (s .ordered ++ t)) (key v ∷ labels key (s .ordered ++ t)) (λ y _ i. inr i))
 
-  pub few-step : (s : Run) (w : ℕ) → Roomy n key t (moved 1 n key home s w) → Roomy n key t s
+  few-step : (s : Run) (w : ℕ) → Roomy n key t (moved 1 n key home s w) → Roomy n key t s
   unfolding moved
   few-step s w f = f
 
   pub few-before : (e : Event) (s : Run) → Roomy n key t (event 1 n key home e s) → Roomy n key t s
   few-before e s = event-by 1 n key home (λ r. Roomy n key t r → Roomy n key t s) e s (λ f. f) (λ w v _ _ _. few-order s w v) (λ w _. few-step s w)
 
-  pub event-keeps : (e : Event) (s : Run) → Fair n W key home t s → Roomy n key t s
+  pub event-keeps : (e : Event) (s : Run) → Fair n W key home t s
       → Fair n W key home t (event 1 n key home e s) × Grows (labels key (s .table)) (labels key (event 1 n key home e s .table))
-  event-keeps e s fair few = event-by 1 n key home (λ r. Fair n W key home t r × Grows (labels key (s .table)) (labels key (r .table))) e s (fair, λ j. omega arith)
-      (λ w v l is p. (order-fair s fair w l v (omega arith) is, order-grows s w v)) (λ w l. step-keeps s fair w l few)
+  event-keeps e s fair = event-by 1 n key home (λ r. Fair n W key home t r × Grows (labels key (s .table)) (labels key (r .table))) e s (fair, λ j. omega arith)
+      (λ w v l is p. (order-fair s fair w l v (omega arith) is, order-grows s w v)) (λ w l. step-keeps s fair w l)

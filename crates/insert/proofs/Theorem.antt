@@ -17,7 +17,7 @@ use Rattle.prices.proofs.Theorem.{theorem as layouts, sized}
 use Rattle.activities.specs.declared.Activity.the-variants.{Idle}
 use Rattle.rule.specs.Rule.{start}
 use Rattle.rule.specs.Events.{Run, Event, worker, AllIdle, ordered, event, run, opened, after}
-use Rattle.phases.specs.Promise.{mostRest, Always, present, Roomy, Inserts, Rules, stepsOf}
+use Rattle.phases.specs.Promise.{mostRest, Always, present, Roomy, Carries, Inserts, Rules, stepsOf}
 use Rattle.phases.proofs.Crew.{crew-idle}
 use Rattle.phases.proofs.Steps.{moved}
 use Rattle.phases.proofs.Events.{event-by, run-keeps, run-paid}
@@ -27,7 +27,7 @@ use Rattle.phases.proofs.Formula.{under}
 use Rattle.phases.proofs.Rounds.{steps-ordered}
 use Rattle.insert.proofs.Bound.{potential, opening-potential, potential-most, order-pays, step-pays}
 use Rattle.insert.proofs.Invariant.{Carried, Present, Fair}
-use Rattle.insert.proofs.Step.{empty, order-fair, step-keeps, few-order, few-step, few-before, event-keeps}
+use Rattle.insert.proofs.Step.{empty, order-fair, step-keeps, few-before, event-keeps}
 
 -- the formula covers a step more than an operation takes
 few-steps : (n W : ℕ) → 2 * (W * (n - 1)) + 3 ≤ W * (5 * n + 2) + 1 + (5 * n + 2)
@@ -58,20 +58,20 @@ module _ (n W : ℕ) (key home : ℕ → ℕ) (rules : Rules n key home) (t : Li
         shape = λ w. rw (rest w) tt;
       }
 
-  -- ---- what every event keeps: the invariant, as long as the labels fit
+  -- ---- what every event keeps: the invariant, also where the labels do not fit
   abbrev Kept : Run → Type 0
-  Kept s = (length (s .workers) ≡ W) × (Roomy n key t s → Fair n W key home t s)
+  Kept s = (length (s .workers) ≡ W) × Fair n W key home t s
 
   order-kept : (s : Run) (w v : ℕ) → Kept s → w < length (s .workers) → worker s w ≡ Idle → 0 < key v → Kept (ordered 1 n key home s w v)
   order-kept s w v (crew, fair) wl is l = (
     unfold ordered in (length-set (s .workers) w (start key home v) ∙ crew),
-    λ f. order-fair n W key home rules t s (fair (few-order n W key home rules t s w v f)) w wl v (omega arith) is,
+    order-fair n W key home rules t s fair w wl v (omega arith) is,
   )
 
   step-kept : (s : Run) (w : ℕ) → Kept s → w < length (s .workers) → Kept (moved 1 n key home s w)
   step-kept s w (crew, fair) wl = (
     unfold moved in (length-set (s .workers) w _ ∙ crew),
-    λ f. let g = few-step n W key home rules t s w f in step-keeps n W key home rules t s (fair g) w wl g .0,
+    step-keeps n W key home rules t s fair w wl .0,
   )
 
   event-kept : (e : Event) (s : Run) → Kept s → Kept (event 1 n key home e s)
@@ -80,7 +80,7 @@ module _ (n W : ℕ) (key home : ℕ → ℕ) (rules : Rules n key home) (t : Li
   -- ---- from a state on
   module _ (es : List Event) (s : Run) (h : Kept s) (few : Roomy n key t (run 1 n key home es s)) where
     run-fair : Fair n W key home t (run 1 n key home es s)
-    run-fair = run-keeps 1 n key home Kept event-kept es s h .1 few
+    run-fair = run-keeps 1 n key home Kept event-kept es s h .1
 
     run-empty : Holds n (labels key (run 1 n key home es s .table)) 0
     run-empty = empty n W key home rules t (run 1 n key home es s) run-fair few
@@ -99,58 +99,27 @@ module _ (n W : ℕ) (key home : ℕ → ℕ) (rules : Rules n key home) (t : Li
           g,
           omega (
             arith,
-            event-keeps n W key home rules t c r (fair g) g .1 e,
+            event-keeps n W key home rules t c r fair .1 e,
             label-at key kz (r .table) e,
             label-at key kz (event 1 n key home c r .table) e,
           ),
         ))
         (λ r w v k l is p. (order-kept r w v k l is p, order-pays n W key home e en r (k .0) w l v is))
-        (λ r w k l. (step-kept r w k l, λ (f, z). step-pays n W key home e en r (k .0) w l t (k .1 (few-step n W key home rules t r w f)) z))
+        (λ r w k l. (step-kept r w k l, λ (f, z). step-pays n W key home e en r (k .0) w l t (k .1) z))
         s h es (few, sym (label-at key kz (run 1 n key home es s .table) e) ∙ run-empty .is)
 
   opening-kept : Kept (opened W t)
-  opening-kept = (length-replicate W Idle, λ _. opening-fair)
+  opening-kept = (length-replicate W Idle, opening-fair)
 
   module _ (es : List Event) where
     kept : Kept (after 1 n W key home t es)
     kept = run-keeps 1 n key home Kept event-kept es (opened W t) opening-kept
 
-  module _ (es : List Event) (few : Roomy n key t (after 1 n W key home t es)) where
     abbrev end : Run
     end = after 1 n W key home t es
 
     fair : Fair n W key home t end
-    fair = kept es .1 few
-
-    some-empty : Holds n (labels key (end .table)) 0
-    some-empty = run-empty es (opened W t) opening-kept few
-
-    steps-bounded : end .counted ≤ length (end .ordered) * (2 * (W * (n - 1)) + 2)
-    steps-bounded =
-        let e = run-empty es (opened W t) opening-kept few in
-        omega (arith, steps-paid es (opened W t) opening-kept few, opening-potential n W key home (e .cell) (e .inside) t)
-
-    pub settles : (ws : List ℕ) → run 1 n key home (stepsOf ws) (after 1 n W key home t es) .counted ≤ after 1 n W key home t es .counted + mostRest n W
-    settles ws =
-        let same = steps-ordered 1 n key home ws end in
-        let few′ : Roomy n key t (run 1 n key home (stepsOf ws) end) = rw same few in
-        let e = run-empty (stepsOf ws) end (kept es) few′ in
-        omega (
-          arith,
-          steps-paid (stepsOf ws) end (kept es) few′,
-          ap (λ (l : List ℕ). length l * (2 * (W * (n - 1)) + 2)) same,
-          potential-most n W key home (e .cell) (e .inside) (end .table) (end .workers),
-          under n W (2 * W + 1) (2 * (W * (n - 1)) + 3) (few-steps n W),
-        )
-
-    pub always : Always 1 n W key (after 1 n W key home t es)
-    always =
-        record {
-          sized = fair .sized;
-          crew = fair .crew;
-          formed = formed 1 n key home (rules .inside) W t es;
-          bounded = omega (arith, steps-bounded, under n W (length (end .ordered)) (2 * (W * (n - 1)) + 2) (omega (arith, few-steps n W)));
-        }
+    fair = kept .1
 
     -- ---- the contents of the table and those carried, as one list
     load : List ℕ
@@ -180,31 +149,67 @@ module _ (n W : ℕ) (key home : ℕ → ℕ) (rules : Rules n key home) (t : Li
     prices = cover-least key (present end) (end .ordered ++ t) only
         (λ v nz i. further key _ _ v (covers v nz i) (λ u e h. itself key _ u (present-in u (λ z. nz (sym e ∙ z)) h)))
 
-    -- ---- where all workers are idle, the table is sound and has just those contents
-    module _ (rest : AllIdle (after 1 n W key home t es)) where
-      rest-sound : PricedSound n key home (end .table)
-      rest-sound = record { paths = paths-sound n home hb (labels key (end .table)) (length-map (end .table) key ∙ fair .sized) some-empty (fair .paths); whole = fair .whole }
-
-      rest-least : SameLeast key (end .table) (end .ordered ++ t)
-      rest-least = cover-least key (end .table) (end .ordered ++ t)
-          (λ v nz i. in-append (end .ordered) t v .1 (⊎-elim inr inl (fair .only v nz (inl (in-holds n (end .table) v (fair .sized) i)))))
-          (λ v nz i. further key _ _ v (covers v nz i) (λ u e. ⊎-elim
-          (λ h. itself key _ u (held-in n (end .table) u (fair .sized) h)) (λ c. absurd (nobody end rest u (λ z. nz (sym e ∙ z)) c))))
-
-      rest-layout : end .table ≡ pricedLayout n key home (end .ordered ++ t)
-      rest-layout = layouts n key home kz hb .own (end .table) rest-sound ∙ layouts n key home kz hb .set-only (end .table) (end .ordered ++ t) rest-least
-
-    pub inserts : Inserts n key home t (after 1 n W key home t es)
-    inserts =
+    pub carries : Carries n key home t (after 1 n W key home t es)
+    carries =
         record {
           ordering = paths-ordered n home hb (labels key (end .table)) (fair .paths);
           whole = fair .whole;
-          gap = record { cell = some-empty .cell; inside = some-empty .inside; is = fair .whole (some-empty .cell) (sym (label-at key kz (end .table) (some-empty .cell)) ∙ some-empty .is) };
           union = λ l nz. (
             same-label key kz (present end) (end .ordered ++ t) (λ y d. prices y d .0) l nz,
             same-label key kz (end .ordered ++ t) (present end) (λ y d. prices y d .1) l nz,
           );
           prices = prices;
           only = only;
-          at-rest = rest-layout;
         }
+
+    module _ (few : Roomy n key t (after 1 n W key home t es)) where
+      some-empty : Holds n (labels key (end .table)) 0
+      some-empty = run-empty es (opened W t) opening-kept few
+
+      steps-bounded : end .counted ≤ length (end .ordered) * (2 * (W * (n - 1)) + 2)
+      steps-bounded =
+          let e = run-empty es (opened W t) opening-kept few in
+          omega (arith, steps-paid es (opened W t) opening-kept few, opening-potential n W key home (e .cell) (e .inside) t)
+
+      pub settles : (ws : List ℕ) → run 1 n key home (stepsOf ws) (after 1 n W key home t es) .counted ≤ after 1 n W key home t es .counted + mostRest n W
+      settles ws =
+          let same = steps-ordered 1 n key home ws end in
+          let few′ : Roomy n key t (run 1 n key home (stepsOf ws) end) = rw same few in
+          let e = run-empty (stepsOf ws) end kept few′ in
+          omega (
+            arith,
+            steps-paid (stepsOf ws) end kept few′,
+            ap (λ (l : List ℕ). length l * (2 * (W * (n - 1)) + 2)) same,
+            potential-most n W key home (e .cell) (e .inside) (end .table) (end .workers),
+            under n W (2 * W + 1) (2 * (W * (n - 1)) + 3) (few-steps n W),
+          )
+
+      pub always : Always 1 n W key (after 1 n W key home t es)
+      always =
+          record {
+            sized = fair .sized;
+            crew = fair .crew;
+            formed = formed 1 n key home (rules .inside) W t es;
+            bounded = omega (arith, steps-bounded, under n W (length (end .ordered)) (2 * (W * (n - 1)) + 2) (omega (arith, few-steps n W)));
+          }
+
+      -- ---- where all workers are idle, the table is sound and has just those contents
+      module _ (rest : AllIdle (after 1 n W key home t es)) where
+        rest-sound : PricedSound n key home (end .table)
+        rest-sound = record { paths = paths-sound n home hb (labels key (end .table)) (length-map (end .table) key ∙ fair .sized) some-empty (fair .paths); whole = fair .whole }
+
+        rest-least : SameLeast key (end .table) (end .ordered ++ t)
+        rest-least = cover-least key (end .table) (end .ordered ++ t)
+            (λ v nz i. in-append (end .ordered) t v .1 (⊎-elim inr inl (fair .only v nz (inl (in-holds n (end .table) v (fair .sized) i)))))
+            (λ v nz i. further key _ _ v (covers v nz i) (λ u e. ⊎-elim
+            (λ h. itself key _ u (held-in n (end .table) u (fair .sized) h)) (λ c. absurd (nobody end rest u (λ z. nz (sym e ∙ z)) c))))
+
+        rest-layout : end .table ≡ pricedLayout n key home (end .ordered ++ t)
+        rest-layout = layouts n key home kz hb .own (end .table) rest-sound ∙ layouts n key home kz hb .set-only (end .table) (end .ordered ++ t) rest-least
+
+      pub inserts : Inserts n key home t (after 1 n W key home t es)
+      inserts =
+          record {
+            gap = record { cell = some-empty .cell; inside = some-empty .inside; is = fair .whole (some-empty .cell) (sym (label-at key kz (end .table) (some-empty .cell)) ∙ some-empty .is) };
+            at-rest = rest-layout;
+          }

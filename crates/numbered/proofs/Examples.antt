@@ -8,7 +8,9 @@ use Rattle.ring.specs.Ring.{wrap, probe, dist, prev}
 use Rattle.ring.specs.Counting.{count}
 use Rattle.layout.specs.Sound.{all, some, clear, isSound}
 use Rattle.layout.proofs.Tests.{and-left, and-right}
+use Rattle.layout.specs.Layout.{into, descending}
 use Rattle.prices.specs.Contents.{isSoundTable}
+use Rattle.orders.specs.Orders.{lineFault, linesFault, ordersOf}
 use Rattle.rule.specs.Rule.{settled, absorbed, insertStep, findStep, deleteStep, rule}
 use Rattle.rule.specs.Schedules.{sameTable}
 use Rattle.rule.proofs.Schedules.{same-table}
@@ -21,13 +23,13 @@ use Rattle.numbered.specs.Examples.{Batch, Leaves, AllLeave, batches, Ba
 
 module _ (b : Batch) where
   abbrev calls : List Call
-  calls = dealt gateway (b .kind) (b .crew) (b .table) (b .ops) (b .workers) (b .keys) (b .prices) (b .out)
+  calls = dealt gateway (b .kind) (b .crew) (b .table) (b .orders) (b .ops) (b .lines) (b .workers) (b .keys) (b .out)
 
   abbrev cells : List ℕ
-  cells = after gateway (b .kind) (b .crew) (b .table) calls .table
+  cells = after gateway (b .kind) (b .crew) (b .table) (b .orders) calls .table
 
   abbrev answers : List ℕ
-  answers = answersOf gateway calls (opening gateway (b .kind) (b .crew) (b .table)) ++ drop (length calls) (b .out)
+  answers = answersOf gateway (b .orders) calls (opening gateway (b .kind) (b .crew) (b .table) (b .orders)) ++ drop (length calls) (b .out)
 
   unfoldable leavesRight : Bool
   leavesRight = sameTable cells (b .closed) && sameTable answers (b .answers)
@@ -51,6 +53,7 @@ all-say (b ∷ bs) p = (leaves b (and-left (leavesRight b) (allLeave bs) p), all
 computed : T (allLeave batches)
 unfolding allLeave leavesRight sameTable callsOf answerOf answersOf call run isWellFormed
     rule settled absorbed insertStep findStep deleteStep isSoundTable isSound all some clear dist probe prev wrap count
+    into descending lineFault linesFault ordersOf
 computed = tt
 
 pub batches-promise : BatchesPromise

@@ -2,6 +2,7 @@
 use mathlib.Core.Path.{_≡_}
 use mathlib.Core.List.{List, []}
 use Prim.Native.Nat.{ℕ}
+use Rattle.orders.specs.declared.Order.{Order}
 use Rattle.state.specs.Model.{Model}
 use Rattle.state.specs.Open.{openReply}
 use Rattle.state.specs.declared.Replied.{Replied}
@@ -11,19 +12,19 @@ use Rattle.history.specs.History.{Call, opening}
 use Rattle.history.specs.Promise.{Claim}
 use Rattle.numbered.specs.Lists.{callsLent, RunGives}
 
-module _ (M : Model) (k m : ℕ) (t ops workers keys prices out : List ℕ) where
+module _ (M : Model) (k m : ℕ) (t : List ℕ) (os : List Order) (ops lines workers keys out : List ℕ) where
   -- none if the opening is refused
   abbrev pub ifAccepted : Reply → List Call
-  ifAccepted Accepted = callsLent ops workers keys prices out
+  ifAccepted Accepted = callsLent ops lines workers keys out
   ifAccepted (Refused r) = []
 
   abbrev pub dealt : List Call
-  dealt = ifAccepted (openReply M k m t)
+  dealt = ifAccepted (openReply M k m t os)
 
   pub record Ran (r : Replied) (t′ out′ : List ℕ) : Type 0 where
-    pub reply : r .reply ≡ openReply M k m t
-    pub gives : RunGives M dealt (opening M k m t) out (r .phase) t′ out′
+    pub reply : r .reply ≡ openReply M k m t os
+    pub gives : RunGives M os dealt (opening M k m t os) out (r .phase) t′ out′
 
   -- what is promised of the calls where the opening is accepted
   abbrev pub Promised : Type 0
-  Promised = openReply M k m t ≡ Accepted → Claim M k m t dealt
+  Promised = openReply M k m t os ≡ Accepted → Claim M k m t os dealt

@@ -44,6 +44,12 @@ fn command_of(s: &[u8]) -> Named
             known: true,
         };
     }
+    if scanning::same_bytes(s, b"item") {
+        return Named {
+            command: Command::Item,
+            known: true,
+        };
+    }
     if scanning::same_bytes(s, b"order") {
         return Named {
             command: Command::Order,

@@ -1,16 +1,18 @@
--- With fewer orders than empty cells at opening, the labels at opening and those ordered are fewer than the cells.
+-- Labels ordered from a list that together with the table has fewer labels than there are cells leave room.
+use mathlib.Core.Logic.{inl, inr, ⊎-elim}
+use mathlib.Core.List.{_++_}
 use native.Mathlib.Omega.{arith}
-use lib.ListN.{length-map}
-use Rattle.layout.proofs.Full.{size-append, size-vacant}
+use Rattle.layout.proofs.Sets.{in-append, subset-size}
 use Rattle.prices.specs.Priced.{labels}
-use Rattle.prices.proofs.Labels.{labels-append}
+use Rattle.prices.proofs.Labels.{in-labels, labels-in}
 use Rattle.phases.specs.Promise.{RoomPromise}
 
 pub room-by : RoomPromise
-room-by n key home rules t sound s few = rw (labels-append key (s .ordered) t) (omega (
+room-by n key t listed s few known = omega (
   arith,
-  size-append (labels key (s .ordered)) (labels key t),
-  length-map (s .ordered) key,
-  size-vacant (labels key t),
-  sound .paths .sized,
-))
+  subset-size (labels key (s .ordered ++ t)) (labels key t ++ listed) (λ l _ i.
+      let o = labels-in key (s .ordered ++ t) l i in
+      let c = o .content in
+      in-append (labels key t) listed l .1 (⊎-elim
+      (λ d. inr (rw (o .is) at (known c d))) (λ d. inl (rw (o .is) at (in-labels key t c d))) (in-append (s .ordered) t c .0 (o .member)))),
+)

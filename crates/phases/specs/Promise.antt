@@ -8,7 +8,7 @@ use lib.Dec.{T, eqb}
 use lib.ListN.{length, getD}
 use Rattle.ring.specs.Counting.{bit, over, count}
 use Rattle.layout.specs.Layout.{In, size}
-use Rattle.layout.specs.Sound.{Holds, vacant, Ordered}
+use Rattle.layout.specs.Sound.{Holds, Ordered}
 use Rattle.prices.specs.Contents.{label, price, priceOk, cellOk, SoundTable}
 use Rattle.prices.specs.Priced.{labels, SameLeast, PricedSound, pricedLayout, withoutLabels}
 use Rattle.activities.specs.Activities.{activityOk, entryOf}
@@ -50,17 +50,22 @@ present s = s .table ++ map entryOf (s .workers)
 abbrev pub Roomy : ℕ → (ℕ → ℕ) → List ℕ → Run → Type 0
 Roomy n key t s = size (labels key (s .ordered ++ t)) < n
 
-pub record Inserts (n : ℕ) (key home : ℕ → ℕ) (t : List ℕ) (s : Run) : Type 0 where
-  -- every label's path holds only greater labels, a cell without a label is empty, and the room never runs out
+-- whether they are or not:
+pub record Carries (n : ℕ) (key home : ℕ → ℕ) (t : List ℕ) (s : Run) : Type 0 where
+  -- every label's path holds only greater labels, and a cell without a label is empty
   pub ordering : Ordered n home (labels key (s .table))
   pub whole : (j : ℕ) → key (getD (s .table) j 0) ≡ 0 → getD (s .table) j 0 ≡ 0
-  pub gap : Holds n (s .table) 0
   -- the labels in the table and those carried are the labels at opening and those ordered
   pub union : (l : ℕ) → l ≢ 0 → In l (labels key (present s)) ↔ In l (labels key (s .ordered ++ t))
   -- each with the least price among that at opening and those ordered, and no content comes in that was not there or ordered
   pub prices : SameLeast key (present s) (s .ordered ++ t)
   pub only : (v : ℕ) → key v ≢ 0 → In v (present s) → In v (s .ordered ++ t)
-  -- where all workers are idle, the table is the layout of those labels with those prices
+
+-- where they are fewer:
+pub record Inserts (n : ℕ) (key home : ℕ → ℕ) (t : List ℕ) (s : Run) : Type 0 where
+  -- the room never runs out
+  pub gap : Holds n (s .table) 0
+  -- where all workers are idle, the table is the layout of the labels at opening and those ordered, each with its least price
   pub at-rest : AllIdle s → s .table ≡ pricedLayout n key home (s .ordered ++ t)
 
 -- ---- 2. find
@@ -96,6 +101,7 @@ pub record Deletes (n : ℕ) (key home : ℕ → ℕ) (t : List ℕ) (s : Run) :
 -- ---- all three, with one bound (4.) for all
 pub record Phases (n W : ℕ) (key home : ℕ → ℕ) (t : List ℕ) (es : List Event) : Type 0 where
   pub insert-always : Roomy n key t (after 1 n W key home t es) → Always 1 n W key (after 1 n W key home t es)
+  pub carries : Carries n key home t (after 1 n W key home t es)
   pub inserts : Roomy n key t (after 1 n W key home t es) → Inserts n key home t (after 1 n W key home t es)
   pub delete-always : Always 2 n W key (after 2 n W key home t es)
   pub deletes : Deletes n key home t (after 2 n W key home t es)
@@ -122,10 +128,10 @@ OneEndPromise = (k n W W′ : ℕ) → (k ≡ 1) ⊎ (k ≡ 2) ⊎ (k ≡ 3) →
     → SameOrders k key (after k n W key home t es .ordered) (after k n W′ key home t es′ .ordered)
     → AllIdle (after k n W key home t es) → AllIdle (after k n W′ key home t es′) → after k n W key home t es .table ≡ after k n W′ key home t es′ .table
 
--- ---- what keeps the labels fewer than the cells: fewer orders than empty cells at opening
+-- ---- what keeps the labels fewer than the cells: every label ordered is of a list that together with the table has fewer, however often it is ordered
 abbrev pub RoomPromise : Type 0
-RoomPromise = (n : ℕ) (key home : ℕ → ℕ) → Rules n key home → (t : List ℕ) → PricedSound n key home t → (s : Run)
-    → length (s .ordered) < vacant (labels key t) → Roomy n key t s
+RoomPromise = (n : ℕ) (key : ℕ → ℕ) (t listed : List ℕ) (s : Run)
+    → size (labels key t ++ listed) < n → ((v : ℕ) → In v (s .ordered) → In (key v) listed) → Roomy n key t s
 
 -- ---- contents made of a label and a price: where every content ordered in an insert phase has a right price, every cell is right by itself at all times,
 -- and where all workers are idle the table is sound again

@@ -1,15 +1,17 @@
 -- The calls' sequences of refusals, each test with what it says.
 use mathlib.Core.Path.{_≡_, refl}
-use mathlib.Core.Logic.{_≢_, _⊎_, ⊎-elim}
+use mathlib.Core.Logic.{_≢_}
 use mathlib.Core.Bool.{true, false, not}
 use mathlib.Core.List.{List, [], _∷_, _++_}
 use Prim.Native.Nat.{ℕ, _≤_, _<_}
 use native.Mathlib.Omega.{arith}
-use lib.Dec.{leb, eqb}
-use lib.ListN.{length}
-use borrow.Author.Tests.{leb-true, leb-false}
-use Rattle.ring.proofs.Tests.{not-both, equal-says, both-say, within-says, by-test}
-use Rattle.prices.specs.Contents.{isSoundTable}
+use lib.Dec.{leb, ltb, eqb}
+use lib.ListN.{length, getD}
+use borrow.Author.Tests.{leb-true, leb-false, ltb-true, ltb-false, not-true, not-false}
+use Rattle.ring.proofs.Tests.{not-both, equal-says, within-says, by-test}
+use Rattle.prices.specs.Contents.{isSoundTable, priceOk}
+use Rattle.orders.specs.Orders.{blank, linesFault}
+use Rattle.orders.specs.declared.Order.{Order}
 use Rattle.activities.specs.Activities.{isIdle}
 use Rattle.activities.specs.Kinds.{kindOk}
 use Rattle.activities.specs.declared.Activity.the-variants.{Idle}
@@ -18,13 +20,16 @@ use Rattle.rule.specs.Rule.{touched}
 use Rattle.rule.specs.declared.Place.{Place}
 use Rattle.rule.specs.declared.Place.the-variants.{Nowhere, At}
 use Rattle.state.specs.Model.{Model, sizeOk, crewOk}
+use Rattle.state.specs.Open.{crowded}
 use Rattle.state.specs.Refusals.{replyNumber}
 use Rattle.state.specs.declared.Phase.{Phase}
-use Rattle.state.specs.declared.Refusal.the-variants.{Size, Crew, Kind, Unsound, OtherTable, NoWorker, Blank, Busy, Full, Working, Shut, Spoilt, WrongPrice}
-use Rattle.protocol.specs.Bars.{doing, allIdle, usedUp, mispriced}
+use Rattle.state.specs.declared.Refusal.the-variants.{Size, Crew, Kind, Unsound, OtherTable, NoWorker, Blank, Busy, Full, Working, Shut, Spoilt, WrongPrice, NoLine, LongList}
+use Rattle.protocol.specs.Bars.{doing, allIdle}
 use Rattle.protocol.specs.Calls.{turnNumber, movedAt, turnCheck, turnCall}
 use Rattle.protocol.specs.IsWellFormed.{isWellFormed}
-use Rattle.protocol.proofs.Pricing.{mispriced-says, priced-says}
+use Rattle.protocol.specs.Lines.{Priced, Mispriced}
+use Rattle.protocol.proofs.Lines.{apart, blank-first, price-first, worker-first, fills-says}
+use Rattle.protocol.proofs.Pricing.{price-says, wrong-says}
 use Rattle.protocol.proofs.Soundness.{sound-says}
 use Rattle.protocol.proofs.Chain.{Step, barring, wanting, by-reply}
 use Rattle.protocol.proofs.WellFormed.{all-idle-says, some-busy, well-formed-says}
@@ -37,27 +42,36 @@ module _ (M : Model) (t : List ℕ) where
   abbrev pub soundSteps : List Step
   soundSteps = wanting (isSoundTable (length t) (M .home (length t)) t) (sound-says M t) Unsound ∷ []
 
-abbrev pub openSteps : Model → ℕ → ℕ → List ℕ → List Step
-openSteps M k m t =
-    sizeSteps M t
-    ++ wanting (crewOk M m) (within-says (M .fewestWorkers) (M .mostWorkers) m) Crew
-    ∷ wanting (kindOk k) (within-says 1 3 k) Kind
-    ∷ soundSteps M t
+module _ (M : Model) (k m : ℕ) (t : List ℕ) where
+  abbrev limitSteps : List Step
+  limitSteps =
+      sizeSteps M t
+      ++ wanting (crewOk M m) (within-says (M .fewestWorkers) (M .mostWorkers) m) Crew
+      ∷ wanting (kindOk k) (within-says 1 3 k) Kind
+      ∷ []
 
--- ---- parts of the other calls
-abbrev entrySteps : (k v cents : ℕ) → List Step
-entrySteps k v cents =
-    barring (eqb v 0) (equal-says v 0) Blank
-    ∷ record {
-      when = mispriced k cents;
-      why = WrongPrice;
-      passes = k ≡ 1 → (1 ≤ cents) × (cents ≤ 9999999);
-      applies = (k ≡ 1) × ((cents ≡ 0) ⊎ (9999999 < cents));
-      if-true = mispriced-says k cents .0;
-      if-false = priced-says k cents;
-      apart = λ ok (is, h). let (least, most) = ok is in ⊎-elim (λ z. omega arith) (λ l. omega arith) h;
-    }
-    ∷ []
+  -- an insert phase, and any other
+  abbrev pub insertSteps : List Order → List Step
+  insertSteps os =
+      limitSteps
+      ++ record {
+        when = ltb (M .mostLines) (length os);
+        why = LongList;
+        passes = length os ≤ M .mostLines;
+        applies = M .mostLines < length os;
+        if-true = ltb-true (M .mostLines) (length os);
+        if-false = ltb-false (M .mostLines) (length os);
+        apart = λ l h. omega arith;
+      }
+      ∷ soundSteps M t
+      ++ barring (eqb (linesFault m os) 7) (blank-first m os) Blank
+      ∷ barring (eqb (linesFault m os) 14) (price-first m os) WrongPrice
+      ∷ barring (eqb (linesFault m os) 6) (worker-first m os) NoWorker
+      ∷ barring (crowded t os) (fills-says t os) Full
+      ∷ []
+
+  abbrev pub otherSteps : List Step
+  otherSteps = limitSteps ++ soundSteps M t
 
 module _ (M : Model) (p : Phase) where
   abbrev phaseSteps : List Step
@@ -88,14 +102,36 @@ module _ (M : Model) (p : Phase) where
       ∷ []
 
   -- ---- order
-  abbrev pub orderSteps : (w v cents : ℕ) → List Step
-  orderSteps w v cents =
+  abbrev workerSteps : (w v : ℕ) → List Step
+  workerSteps w v = numberSteps w ++ wanting (isIdle (doing p w)) (idle-says (doing p w)) Busy ∷ barring (eqb v 0) (equal-says v 0) Blank ∷ []
+
+  -- an insert phase, by a line, and any other, by a worker and a key handed in
+  abbrev pub lineOrderSteps : List Order → ℕ → List Step
+  lineOrderSteps os i =
       phaseSteps
-      ++ numberSteps w
-      ++ wanting (isIdle (doing p w)) (idle-says (doing p w)) Busy
-      ∷ entrySteps (p .kind) v cents
-      ++ barring (usedUp (p .kind) (p .left)) (both-say _ _ (equal-says (p .kind) 1) (equal-says (p .left) 0)) Full
+      ++ record {
+        when = not (ltb i (length os));
+        why = NoLine;
+        passes = i < length os;
+        applies = length os ≤ i;
+        if-true = λ e. ltb-false i (length os) (not-true (ltb i (length os)) e);
+        if-false = λ e. ltb-true i (length os) (not-false (ltb i (length os)) e);
+        apart = λ l h. omega arith;
+      }
+      ∷ workerSteps (getD os i blank .worker) (getD os i blank .key)
+      ++ record {
+        when = not (priceOk (getD os i blank .price));
+        why = WrongPrice;
+        passes = Priced (getD os i blank .price);
+        applies = Mispriced (getD os i blank .price);
+        if-true = wrong-says (getD os i blank .price) .0;
+        if-false = λ e. price-says (getD os i blank .price) .0 (not-false (priceOk (getD os i blank .price)) e);
+        apart = λ ok wrong. apart (getD os i blank .price) wrong ok;
+      }
       ∷ []
+
+  abbrev pub handedSteps : (w v : ℕ) → List Step
+  handedSteps w v = phaseSteps ++ workerSteps w v
 
   -- ---- turn
   module _ (t : List ℕ) (w : ℕ) where

@@ -1,14 +1,13 @@
 -- What a call leaves of a phase state, and of the worker that it moves.
-use mathlib.Core.Path.{_≡_, refl, ap, _∙_}
-use mathlib.Core.Logic.{_≢_}
+use mathlib.Core.Path.{_≡_, refl, ap, ap₂, _∙_}
+use mathlib.Core.Bool.{Bool}
 use mathlib.Core.List.{List}
 use Prim.Native.Nat.{ℕ, _≤_, _<_}
 use native.Mathlib.Omega.{arith}
 use lib.ListN.{length, getD, length-set, List·getD-eq-default}
 use lib.Seq.{getD-set-same, getD-set-other}
-use borrow.Author.Tests.{eq-eqb, ne-eqb}
 use Rattle.ring.proofs.Split.{by-lt}
-use Rattle.prices.specs.Contents.{label}
+use Rattle.prices.specs.Contents.{label, content}
 use Rattle.activities.specs.Activities.{idle}
 use Rattle.activities.specs.declared.Activity.{Activity}
 use Rattle.activities.specs.declared.Activity.the-variants.{Reading}
@@ -21,7 +20,7 @@ use Rattle.state.specs.declared.Phase.{Phase}
 use Rattle.protocol.specs.Bars.{doing}
 use Rattle.protocol.specs.Calls.{entryFor, withWorker, shutPhase, orderedPhase, movedAt}
 use Rattle.protocol.specs.Promise.{Framed, ButFor, Starts, Ends}
-use Rattle.protocol.proofs.Pricing.{entry-priced, entry-bare, entry-key}
+use Rattle.protocol.proofs.Pricing.{entry-key}
 
 -- ---- one worker
 -- a worker that touches a cell is in the list of workers
@@ -48,38 +47,26 @@ but-worker w p a =
       others = λ u ne. ap (λ (x : Worker). x .activity) (getD-set-other (p .workers) w u _ idle ne);
     }
 
--- an order changes its worker and the insert operations left
-module _ (M : Model) (p : Phase) (w v cents : ℕ) where
+-- an order changes its worker alone
+module _ (M : Model) (p : Phase) (lacks : Bool) (w v cents : ℕ) where
   abbrev entry : ℕ
   entry = entryFor (p .kind) v cents
 
-  pub ordered-starts : (p .kind ≡ 1 → (1 ≤ cents) × (cents ≤ 9999999)) → (p .kind ≡ 1 → p .left ≢ 0) → Starts M p w v cents (orderedPhase M p w v cents)
-  ordered-starts ok some =
-      let h = but-worker w p (start label (M .home (p .length)) entry) in
-      let starts : w < length (p .workers) → doing (orderedPhase M p w v cents) w ≡ Reading entry (M .home (p .length) v) = λ l.
-      moved p w (start label (M .home (p .length)) entry) l
-      ∙ ap (λ (x : ℕ). Reading entry (M .home (p .length) x)) (entry-key (p .kind) v cents ok) in
+  -- where the entry is this key at this price
+  pub ordered-starts : (p .kind ≡ 1 → (1 ≤ cents) × (cents ≤ 9999999)) → (at : ℕ) → entry ≡ content v at → Starts M p w v at (orderedPhase M p lacks w v cents)
+  ordered-starts ok at is =
       record {
-        others = record {
-          frame = record { kind = refl; cells = refl; crew = refl; places = h .frame .places };
-          shut = refl;
-          others = h .others;
-        };
-        starts-priced = λ is l. starts l ∙ ap (λ (x : ℕ). Reading x (M .home (p .length) v)) (entry-priced (p .kind) v cents is);
-        starts = λ ne l. starts l ∙ ap (λ (x : ℕ). Reading x (M .home (p .length) v)) (entry-bare (p .kind) v cents ne);
-        takes-one = λ is. let z = some is in rw (eq-eqb (p .kind) 1 is) (omega arith);
-        takes-none = λ ne. rw (ne-eqb (p .kind) 1 ne);
+        others = but-worker w p (start label (M .home (p .length)) entry);
+        starts = λ l.
+            moved p w (start label (M .home (p .length)) entry) l
+            ∙ ap₂ (λ (e x : ℕ). Reading e (M .home (p .length) x)) is (entry-key (p .kind) v cents ok);
       }
 
 pub shut-ends : (p : Phase) → Ends p (shutPhase p)
-shut-ends p = record { frame = record { kind = refl; cells = refl; crew = refl; places = refl }; left = refl; shut = refl; workers = refl }
+shut-ends p = record { frame = record { kind = refl; cells = refl; crew = refl; places = refl }; shut = refl; workers = refl }
 
 -- ---- a turn that moves its worker
 module _ (M : Model) (p : Phase) (t : List ℕ) (w : ℕ) where
   pub moved-others : (q : Place) → ButFor w p (movedAt M p t w q .phase)
   moved-others Nowhere = but-self w p
   moved-others (At c) = but-worker w p _
-
-  pub moved-left : (q : Place) → movedAt M p t w q .phase .left ≡ p .left
-  moved-left Nowhere = refl
-  moved-left (At c) = refl

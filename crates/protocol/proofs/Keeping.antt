@@ -5,13 +5,12 @@ use mathlib.Core.Bool.{true, false}
 use mathlib.Core.List.{List}
 use Prim.Native.Nat.{ℕ, _≤_, _<_}
 use native.Mathlib.Omega.{arith}
-use lib.Dec.{eqb}
 use lib.ListN.{length, getD, set}
 use lib.Seq.{getD-set-same, getD-set-other, set-out}
-use Rattle.ring.proofs.Counting.{count-le}
 use Rattle.ring.proofs.Split.{by-lt, by-eq}
-use Rattle.ring.proofs.Tests.{tested}
 use Rattle.prices.specs.Contents.{label}
+use Rattle.orders.specs.Orders.{lineAt}
+use Rattle.orders.specs.declared.Order.{Order}
 use Rattle.activities.specs.Activities.{idle, Suits}
 use Rattle.activities.specs.declared.Activity.{Activity}
 use Rattle.activities.specs.declared.Activity.the-variants.{Idle}
@@ -26,7 +25,7 @@ use Rattle.state.specs.Refusals.{replyNumber}
 use Rattle.state.specs.declared.Phase.{Phase}
 use Rattle.state.proofs.Model.{gateway-proper}
 use Rattle.protocol.specs.Bars.{doing}
-use Rattle.protocol.specs.Calls.{entryFor, withWorker, closeReply, closeCall, orderReply, orderCall, turnCheck, movedAt, turnCall}
+use Rattle.protocol.specs.Calls.{asked, entryFor, withWorker, closeReply, closeCall, foundReply, orderCall, turnCheck, movedAt, turnCall}
 use Rattle.protocol.specs.Promise.{KeepsPromise, opened, ordered, turned, closed, NeverSpoiltPromise, PlacesPromise, GatewayNeverSpoilt, Openings, Framed}
 use Rattle.protocol.specs.WellFormed.{Size, Crew, WellFormed}
 use Rattle.protocol.proofs.Chain.{by-reply, none-accepted}
@@ -49,31 +48,24 @@ module _ (M : Model) (p : Phase) (good : WellFormed M p) where
         kind = good .kind;
         size = good .size;
         crew = good .crew;
-        left = good .left;
         past = changed (λ u b. p .crew ≤ u → b ≡ Idle) (p .workers) w a (λ l. absurd (omega arith)) (good .past);
         workers = changed (λ u b. u < p .crew → Suits (p .kind) (p .length) label b) (p .workers) w a (λ _. new) (good .workers);
       }
 
   pub close-keeps : WellFormed M (closeCall M p .phase)
   close-keeps = by-reply (closeReply M p)
-      (λ e. rw e (record { kind = good .kind; size = good .size; crew = good .crew; left = good .left; past = good .past; workers = good .workers }))
+      (λ e. rw e (record { kind = good .kind; size = good .size; crew = good .crew; past = good .past; workers = good .workers }))
       (λ _ e. rw e good)
 
-  pub order-keeps : (w v cents : ℕ) → M .home (p .length) v < p .length → WellFormed M (orderCall M p w v cents .phase)
-  order-keeps w v cents at-home = by-reply (orderReply M p w v cents)
+  pub order-keeps : ((v : ℕ) → M .home (p .length) v < p .length) → (os : List Order) (i w v : ℕ) → WellFormed M (orderCall M p os i w v .phase)
+  order-keeps at-home os i w v =
+      let o = asked (p .kind) (lineAt os i) w v in
+      by-reply (foundReply M p (lineAt os i) w v)
       (λ e.
-      let q = order-passed M p w v cents e in
-      let same = entry-key (p .kind) v cents (q .price) in
-      let h = with-worker w (start label (M .home (p .length)) (entryFor (p .kind) v cents)) (q .below) (rw same (q .key), rw same at-home) in
+      let q = order-passed M p os i w v e in
+      let same = entry-key (p .kind) (o .key) (o .price) (q .price) in
       rw e
-      (record {
-        kind = h .kind;
-        size = h .size;
-        crew = h .crew;
-        left = tested (λ x. x < p .length) (eqb (p .kind) 1) (λ _. omega (arith, good .left)) (λ _. good .left);
-        past = h .past;
-        workers = h .workers;
-      }))
+      (with-worker (o .worker) (start label (M .home (p .length)) (entryFor (p .kind) (o .key) (o .price))) (q .below) (rw same (q .key), rw same (at-home (o .key)))))
       (λ _ e. rw e good)
 
   pub turn-keeps : (t : List ℕ) (w : ℕ) → WellFormed M (turnCall M p t w .phase)
@@ -87,32 +79,29 @@ module _ (M : Model) (p : Phase) (good : WellFormed M p) where
 pub keeps : KeepsPromise
 keeps M proper p good =
     record {
-      order = λ w v cents. order-keeps M p good w v cents (proper .homes (p .length) v (omega (arith, proper .some, good .size)));
+      order = order-keeps M p good (λ v. proper .homes (p .length) v (omega (arith, proper .some, good .size)));
       turn = turn-keeps M p good;
       close = close-keeps M p good;
     }
 
 -- ---- openings, accepted or refused
-open-formed : (M : Model) → Proper M → Size M 2 → Crew M 1 → (k m : ℕ) (t : List ℕ) → WellFormed M (openCall M k m t .phase)
-open-formed M proper two one k m t = by-eq (replyNumber (openCall M k m t .reply)) 0
+open-formed : (M : Model) → Size M 2 → Crew M 1 → (k m : ℕ) (t : List ℕ) (os : List Order) → WellFormed M (openCall M k m t os .phase)
+open-formed M two one k m t os = by-eq (replyNumber (openCall M k m t os .reply)) 0
     (λ z.
-    let (size, crew, kind, _) = open-passed M k m t (sym (o .reply) ∙ none-accepted (openCall M k m t .reply) z) in
-    let some = proper .some in
-    let few = count-le (λ x. eqb x 0) t in
-    let left : q .left < length t = by-eq k 1 (λ is. omega (arith, o .insert-left z is)) (λ ne. omega (arith, o .other-left z ne)) in
-    resting-formed M k (length t) m false q kind size crew left (o .accepted z))
-    (λ z. resting-formed M 3 2 1 true q (omega arith) two one (omega (arith, o .refused-left z)) (o .refused z))
+    let p = open-passed M k m t os (sym (o .reply) ∙ none-accepted (openCall M k m t os .reply) z) in
+    resting-formed M k (length t) m false q (p .kind) (p .size) (p .crew) (o .accepted z))
+    (λ z. resting-formed M 3 2 1 true q (omega arith) two one (o .refused z))
   where
-    o : Openings M k m t
-    o = opens M k m t
+    o : Openings M k m t os
+    o = opens M k m t os
 
     q : Phase
-    q = openCall M k m t .phase
+    q = openCall M k m t os .phase
 
 -- ---- and later calls
 pub never-spoilt : NeverSpoiltPromise
-never-spoilt M proper two one p (opened k m t) = open-formed M proper two one k m t
-never-spoilt M proper two one p (ordered q h w v cents) = keeps M proper q (never-spoilt M proper two one q h) .order w v cents
+never-spoilt M proper two one p (opened k m t os) = open-formed M two one k m t os
+never-spoilt M proper two one p (ordered q h os i w v) = keeps M proper q (never-spoilt M proper two one q h) .order os i w v
 never-spoilt M proper two one p (turned q h t w) = keeps M proper q (never-spoilt M proper two one q h) .turn t w
 never-spoilt M proper two one p (closed q h) = keeps M proper q (never-spoilt M proper two one q h) .close
 
@@ -122,11 +111,12 @@ same-places p q number framed same =
     by-eq number 0 (λ z. framed z .places) (λ z. ap (λ (x : Phase). length (x .workers)) (same z))
 
 pub places : PlacesPromise
-places M p (opened k m t) =
-    let o = opens M k m t in
-    by-eq (replyNumber (openCall M k m t .reply)) 0 (λ z. o .accepted z .places) (λ z. o .refused z .places)
-places M p (ordered q h w v cents) = let o = orders M q w v cents in
-    same-places q _ (replyNumber (orderCall M q w v cents .reply)) (λ z. o .accepted z .others .frame) (o .refused) ∙ places M q h
+places M p (opened k m t os) =
+    let o = opens M k m t os in
+    by-eq (replyNumber (openCall M k m t os .reply)) 0 (λ z. o .accepted z .places) (λ z. o .refused z .places)
+places M p (ordered q h os i w v) = let o = orders M q os i w v in
+    same-places q _ (replyNumber (orderCall M q os i w v .reply))
+    (λ z. by-eq (q .kind) 1 (λ is. o .insert-accepted is z .others .frame) (λ ne. o .other-accepted ne z .others .frame)) (o .refused) ∙ places M q h
 places M p (turned q h t w) = turns M q t w .others .frame .places ∙ places M q h
 places M p (closed q h) = let o = closes M q in
     same-places q _ (replyNumber (closeCall M q .reply)) (λ z. o .accepted z .frame) (o .refused) ∙ places M q h

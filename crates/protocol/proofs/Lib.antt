@@ -3,6 +3,7 @@ pub mod Calls
 pub mod Chain
 pub mod Frames
 pub mod Keeping
+pub mod Lines
 pub mod Meeting
 pub mod Opening
 pub mod Ordering

@@ -4,32 +4,23 @@ use mathlib.Core.Logic.{_≢_, _↔_, _⊎_, inl, inr, ⊎-elim}
 use mathlib.Core.Bool.{true, false, not}
 use Prim.Native.Nat.{ℕ, _≤_, _<_}
 use native.Mathlib.Omega.{arith}
-use lib.Dec.{leb, eqb}
+use lib.Dec.{leb}
 use borrow.Author.Tests.{leb-true, le-leb, eq-eqb, ne-eqb, not-true}
 use Rattle.ring.proofs.Split.{by-lt, by-eq}
-use Rattle.ring.proofs.Tests.{by-test, not-both, equal-says, both-say}
+use Rattle.ring.proofs.Tests.{by-test, not-both, both-say}
 use Rattle.prices.specs.Contents.{label, content, priceOk}
 use Rattle.prices.proofs.Contents.{contents}
-use Rattle.protocol.specs.Bars.{mispriced}
 use Rattle.protocol.specs.Calls.{entryFor}
 
 -- ---- prices
 pub price-says : (c : ℕ) → priceOk c ≡ true ↔ ((1 ≤ c) × (c ≤ 9999999))
 price-says c = both-say (leb 1 c) (leb c 9999999) (leb-true 1 c, le-leb 1 c) (leb-true c 9999999, le-leb c 9999999)
 
-wrong-says : (c : ℕ) → not (priceOk c) ≡ true ↔ ((c ≡ 0) ⊎ (9999999 < c))
+pub wrong-says : (c : ℕ) → not (priceOk c) ≡ true ↔ ((c ≡ 0) ⊎ (9999999 < c))
 wrong-says c = (
   λ e. by-eq c 0 inl (λ z. by-lt 9999999 c inr (λ l. absurd (not-both (priceOk c) (price-says c .1 (omega arith, l)) (not-true (priceOk c) e)))),
   λ h. by-test (priceOk c) (λ e. let (a, b) = price-says c .0 e in absurd (⊎-elim (λ z. omega arith) (λ l. omega arith) h)) (λ f. rw f),
 )
-
-module _ (k c : ℕ) where
-  pub mispriced-says : mispriced k c ≡ true ↔ ((k ≡ 1) × ((c ≡ 0) ⊎ (9999999 < c)))
-  mispriced-says = both-say (eqb k 1) (not (priceOk c)) (equal-says k 1) (wrong-says c)
-
-  pub priced-says : mispriced k c ≡ false → k ≡ 1 → (1 ≤ c) × (c ≤ 9999999)
-  priced-says e is =
-      by-test (priceOk c) (price-says c .0) (λ f. absurd (not-both (mispriced k c) (mispriced-says .1 (is, wrong-says c .0 (rw f))) e))
 
 -- ---- an ordered entry: key v, in an insert phase with the price
 module _ (k v c : ℕ) where

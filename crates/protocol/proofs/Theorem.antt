@@ -1,15 +1,21 @@
 -- The promises on refusals.
-use mathlib.Core.Path.{_≡_, refl, sym, _∙_, ap}
+use mathlib.Core.Path.{_≡_, refl, sym, _∙_, ap, subst}
 use mathlib.Core.Logic.{_≢_}
-use mathlib.Core.Bool.{true, false}
-use mathlib.Core.List.{List}
+use mathlib.Core.Bool.{Bool, true, false, not, cond}
+use mathlib.Core.List.{List, _++_}
 use Prim.Native.Nat.{ℕ, _≤_, _<_}
 use native.Mathlib.Omega.{arith}
-use lib.ListN.{length}
-use borrow.Author.Tests.{ne-eqb}
-use Rattle.ring.proofs.Split.{by-lt}
-use Rattle.prices.specs.Contents.{label}
-use Rattle.activities.specs.Kinds.{allowance}
+use lib.Dec.{leb, eqb}
+use lib.ListN.{length, getD}
+use borrow.Author.Tests.{eq-eqb, ne-eqb, le-leb}
+use Rattle.ring.proofs.Split.{by-lt, by-eq}
+use Rattle.ring.proofs.Tests.{tested}
+use Rattle.layout.specs.Layout.{size}
+use Rattle.prices.specs.Contents.{label, content}
+use Rattle.prices.specs.Priced.{labels}
+use Rattle.orders.specs.Orders.{orderWith, blank, orderKeys, lineAt}
+use Rattle.orders.specs.declared.Order.{Order}
+use Rattle.activities.specs.Activities.{isIdle}
 use Rattle.activities.specs.declared.Activity.the-variants.{Idle}
 use Rattle.activities.proofs.Activities.{cells-below}
 use Rattle.rule.specs.Rule.{touched}
@@ -24,18 +30,21 @@ use Rattle.state.specs.declared.Phase.{Phase}
 use Rattle.state.specs.declared.Refusal.{Refusal}
 use Rattle.state.specs.declared.Reply.{Reply}
 use Rattle.state.specs.declared.Reply.the-variants.{Accepted, Refused}
-use Rattle.protocol.specs.Bars.{doing}
-use Rattle.protocol.specs.Calls.{turnNumber, closeReply, closeCall, orderReply, ordered, orderCall, turnCheck, movedAt, turnCall}
+use Rattle.protocol.specs.Bars.{doing, mispriced}
+use Rattle.protocol.specs.IsWellFormed.{isWellFormed}
+use Rattle.protocol.specs.Calls.{turnNumber, asked, missing, entryFor, closeReply, closeCall, orderReply, orderTo, foundReply, orderCall, turnCheck, movedAt, turnCall}
 use Rattle.protocol.specs.Cases.{Decides}
-use Rattle.protocol.specs.Promise.{SoundIn, openCases, UsedUp, orderCases, Answers, turnCases, WellFormedPromise, OpenPromise, OrderPromise, TurnPromise, ClosePromise}
+use Rattle.protocol.specs.Promise.{SoundIn, insertCases, otherCases, lineOrderCases, handedCases, Starts, Answers, turnCases, WellFormedPromise, OpenPromise, OrderPromise, TurnPromise, ClosePromise}
 use Rattle.protocol.specs.WellFormed.{Size, Crew, Kind, WellFormed}
 use Rattle.protocol.specs.declared.TurnReply.the-variants.{Answered}
 use Rattle.protocol.proofs.Answering.{moved-answers, moved-price, moved-no}
-use Rattle.protocol.proofs.Calls.{openSteps, orderSteps, turnSteps, turn-number, closeSteps}
+use Rattle.protocol.proofs.Calls.{insertSteps, otherSteps, lineOrderSteps, handedSteps, turnSteps, turn-number, closeSteps}
 use Rattle.protocol.proofs.Chain.{decides, by-reply, none-accepted}
-use Rattle.protocol.proofs.Frames.{but-self, ordered-starts, shut-ends, moved-others, moved-left}
+use Rattle.protocol.proofs.Frames.{but-self, ordered-starts, shut-ends, moved-others}
 use Rattle.protocol.proofs.Meeting.{moved-stands, moved-undercut, moved-replaced, moved-carries}
-use Rattle.protocol.proofs.Opening.{fresh-resting, insert-allowance, other-allowance}
+use Rattle.protocol.specs.Lines.{Priced, Good, Fills}
+use Rattle.protocol.proofs.Lines.{all-good, fills-says}
+use Rattle.protocol.proofs.Opening.{fresh-resting}
 use Rattle.protocol.proofs.WellFormed.{well-formed-says}
 use Rattle.protocol.proofs.Soundness.{sounds}
 use Rattle.protocol.proofs.Writing.{cells-written, cells-inserted, cells-deleted, cells-emptied}
@@ -44,87 +53,170 @@ pub well-formed : WellFormedPromise
 well-formed = well-formed-says
 
 -- ---- open
-module _ (M : Model) (k m : ℕ) (t : List ℕ) where
-  open-reply : openCall M k m t .reply ≡ openReply M k m t
-  open-reply = by-reply (openReply M k m t) (λ e. rw e) (λ _ e. rw e)
+module _ (M : Model) (k m : ℕ) (t : List ℕ) (os : List Order) where
+  open-reply : openCall M k m t os .reply ≡ openReply M k m t os
+  open-reply = by-reply (openReply M k m t os) (λ e. rw e) (λ _ e. rw e)
 
-  open-number : replyNumber (openCall M k m t .reply) ≡ replyNumber (openReply M k m t)
+  abbrev open-answer : ℕ
+  open-answer = replyNumber (openCall M k m t os .reply)
+
+  open-number : open-answer ≡ replyNumber (openReply M k m t os)
   open-number = ap replyNumber open-reply
 
-  open-decides : Decides (replyNumber (openCall M k m t .reply)) (openCases M k m t)
-  open-decides = decides (openSteps M k m t) refl (replyNumber (openCall M k m t .reply)) open-number
+  insert-decides : k ≡ 1 → Decides open-answer (insertCases M k m t os)
+  insert-decides is = decides (insertSteps M k m t os) refl open-answer (open-number ∙ rw (eq-eqb k 1 is))
+
+  other-decides : k ≢ 1 → Decides open-answer (otherCases M k m t)
+  other-decides ne = decides (otherSteps M k m t) refl open-answer (open-number ∙ rw (ne-eqb k 1 ne))
+
+  -- what an accepted opening of an insert phase has passed besides
+  pub record ListPassed : Type 0 where
+    pub lines : (i : ℕ) → i < length os → Good m (getD os i blank)
+    pub room : size (labels label t ++ orderKeys os) < length t
 
   -- what an accepted opening has passed
-  pub open-passed : openReply M k m t ≡ Accepted → Size M (length t) × Crew M m × Kind k × SoundIn M t
-  open-passed e =
-      let (_, (_, (_, (_, none)))) = open-decides in
-      let ((((_, size), crew), kind), sound) = none .0 (open-number ∙ ap replyNumber e) in (size, crew, kind, sounds M t .1 sound)
+  pub record OpenPassed : Type 0 where
+    pub size : Size M (length t)
+    pub crew : Crew M m
+    pub kind : Kind k
+    pub sound : SoundIn M t
+    pub list : k ≡ 1 → ListPassed
 
-  open-refused {ℓ} : {C : Type ℓ} → replyNumber (openCall M k m t .reply) ≢ 0 → ((q : Refusal) → openReply M k m t ≡ Refused q → C) → C
-  open-refused z f = by-reply (openReply M k m t) (λ e. absurd (z (open-number ∙ ap replyNumber e))) f
+  insert-passed : k ≡ 1 → open-answer ≡ 0 → OpenPassed
+  insert-passed is z =
+      let (_, (_, (_, (_, (_, (_, (_, (_, (_, none))))))))) = insert-decides is in
+      let (((((((((_, a), b), c), _), d), x), y), w), few) = none .0 z in
+      record { size = a; crew = b; kind = c; sound = sounds M t .1 d; list = λ _. record { lines = all-good m os x y w; room = fewer few } }
+    where
+      fewer : (Fills t os → ⊥) → size (labels label t ++ orderKeys os) < length t
+      fewer none = by-lt (size (labels label t ++ orderKeys os)) (length t) (λ l. l) (λ l. absurd (none (fills-says t os .0 (le-leb _ _ l))))
 
-  open-accepted : replyNumber (openCall M k m t .reply) ≡ 0 → openReply M k m t ≡ Accepted
-  open-accepted z = none-accepted (openReply M k m t) (sym open-number ∙ z)
+  other-passed : k ≢ 1 → open-answer ≡ 0 → OpenPassed
+  other-passed ne z =
+      let (_, (_, (_, (_, none)))) = other-decides ne in
+      let ((((_, a), b), c), d) = none .0 z in record { size = a; crew = b; kind = c; sound = sounds M t .1 d; list = λ is. absurd (ne is) }
+
+  number-passed : open-answer ≡ 0 → OpenPassed
+  number-passed z = by-eq k 1 (λ is. insert-passed is z) (λ ne. other-passed ne z)
+
+  pub open-passed : openReply M k m t os ≡ Accepted → OpenPassed
+  open-passed e = number-passed (open-number ∙ ap replyNumber e)
+
+  open-refused {ℓ} : {C : Type ℓ} → open-answer ≢ 0 → ((q : Refusal) → openReply M k m t os ≡ Refused q → C) → C
+  open-refused z f = by-reply (openReply M k m t os) (λ e. absurd (z (open-number ∙ ap replyNumber e))) f
+
+  open-accepted : open-answer ≡ 0 → openReply M k m t os ≡ Accepted
+  open-accepted z = none-accepted (openReply M k m t os) (sym open-number ∙ z)
+
+-- outside insert phases the list is not read
+open-unread : (M : Model) (k m : ℕ) (t : List ℕ) (os other : List Order) → k ≢ 1 → openCall M k m t other ≡ openCall M k m t os
+open-unread M k m t os other ne = rw (ne-eqb k 1 ne)
 
 pub opens : OpenPromise
-opens M k m t =
-    let ok = open-accepted M k m t in
+opens M k m t os =
     record {
-      reply = open-reply M k m t;
-      answers = open-decides M k m t;
-      refused = λ z. open-refused M k m t z (λ _ e. rw e (fresh-resting M 3 2 1 0 true));
-      refused-left = λ z. open-refused M k m t z (λ _ e. rw e);
-      accepted = λ z. rw (ok z) (fresh-resting M k (length t) m (allowance k t) false);
-      insert-left = λ z is. rw (ok z) (insert-allowance k (length t) (M .home (length t)) t (open-passed M k m t (ok z) .3) is);
-      other-left = λ z ne. rw (ok z) (other-allowance k t ne);
+      reply = open-reply M k m t os;
+      inserts = insert-decides M k m t os;
+      others = other-decides M k m t os;
+      refused = λ z. open-refused M k m t os z (λ _ e. rw e (fresh-resting M 3 2 1 true));
+      accepted = λ z. rw (open-accepted M k m t os z) (fresh-resting M k (length t) m false);
+      lines = λ is z. number-passed M k m t os z .list is .lines;
+      unread = λ ne other. open-unread M k m t os other ne;
     }
 
 -- ---- order
-module _ (M : Model) (p : Phase) (w v cents : ℕ) where
-  order-number : replyNumber (orderCall M p w v cents .reply) ≡ replyNumber (orderReply M p w v cents)
-  order-number = by-reply (orderReply M p w v cents) (λ e. rw e) (λ _ e. rw e)
+-- of key v, with its price, to worker w, by a line that the list lacks or not
+order-number : (M : Model) (p : Phase) (lacks : Bool) (w v cents : ℕ) → replyNumber (orderTo M p lacks w v cents .reply) ≡ replyNumber (orderReply M p lacks w v cents)
+order-number M p lacks w v cents = by-reply (orderReply M p lacks w v cents) (λ e. rw e) (λ _ e. rw e)
 
-  order-decides : Decides (replyNumber (orderCall M p w v cents .reply)) (orderCases M p w v cents)
-  order-decides = decides (orderSteps M p w v cents) refl (replyNumber (orderCall M p w v cents .reply)) order-number
+module _ (M : Model) (p : Phase) (os : List Order) (i w v : ℕ) where
+  -- what is asked for
+  abbrev at : Order
+  at = asked (p .kind) (lineAt os i) w v
+
+  abbrev lacks : Bool
+  lacks = missing (p .kind) (lineAt os i)
+
+  abbrev reply : Reply
+  reply = foundReply M p (lineAt os i) w v
+
+  abbrev order-answer : ℕ
+  order-answer = replyNumber (orderCall M p os i w v .reply)
+
+  is-reply : order-answer ≡ replyNumber reply
+  is-reply = order-number M p lacks (at .worker) (at .key) (at .price)
+
+  line-decides : p .kind ≡ 1 → Decides order-answer (lineOrderCases M p os i)
+  line-decides is = decides (lineOrderSteps M p os i) refl order-answer (is-reply ∙ rw (eq-eqb (p .kind) 1 is))
+
+  handed-decides : p .kind ≢ 1 → Decides order-answer (handedCases M p w v)
+  handed-decides ne = decides (handedSteps M p w v) refl order-answer (is-reply ∙ rw (ne-eqb (p .kind) 1 ne))
 
   -- what an accepted order has passed
   pub record Passed : Type 0 where
     pub formed : WellFormed M p
     pub running : p .shut ≡ false
-    pub below : w < p .crew
-    pub free : doing p w ≡ Idle
-    pub key : v ≢ 0
-    pub price : p .kind ≡ 1 → (1 ≤ cents) × (cents ≤ 9999999)
-    pub left : UsedUp p → ⊥
+    pub there : p .kind ≡ 1 → i < length os
+    pub below : at .worker < p .crew
+    pub free : doing p (at .worker) ≡ Idle
+    pub key : at .key ≢ 0
+    pub price : p .kind ≡ 1 → Priced (at .price)
 
-  pub order-passed : orderReply M p w v cents ≡ Accepted → Passed
+  line-passed : p .kind ≡ 1 → order-answer ≡ 0 → Passed
+  line-passed is z =
+      let (_, (_, (_, (_, (_, (_, (_, none))))))) = line-decides is in
+      let (((((((_, formed), running), there), below), free), key), price) = none .0 z in
+      let e = eq-eqb (p .kind) 1 is in
+      record { formed = formed; running = running; there = λ _. there; below = rw e below; free = rw e free; key = rw e key; price = λ _. rw e price }
+
+  handed-passed : p .kind ≢ 1 → order-answer ≡ 0 → Passed
+  handed-passed ne z =
+      let (_, (_, (_, (_, (_, none))))) = handed-decides ne in
+      let (((((_, formed), running), below), free), key) = none .0 z in
+      let e = ne-eqb (p .kind) 1 ne in
+      record { formed = formed; running = running; there = λ is. absurd (ne is); below = rw e below; free = rw e free; key = rw e key; price = λ is. absurd (ne is) }
+
+  pub order-passed : foundReply M p (lineAt os i) w v ≡ Accepted → Passed
   order-passed e =
-      let (_, (_, (_, (_, (_, (_, (_, none))))))) = order-decides in
-      let (((((((_, formed), running), below), free), key), price), left) = none .0 (order-number ∙ ap replyNumber e) in
-      record { formed = formed; running = running; below = below; free = free; key = key; price = price; left = left }
+      let z : order-answer ≡ 0 = is-reply ∙ ap replyNumber e in by-eq (p .kind) 1 (λ is. line-passed is z) (λ ne. handed-passed ne z)
 
-  -- an order of another price, outside insert phases
-  module _ (ne : p .kind ≢ 1) (other : ℕ) where
-    same-answer : (r : Reply) → ordered M p w v other r ≡ ordered M p w v cents r
-    same-answer Accepted = rw (ne-eqb (p .kind) 1 ne)
-    same-answer (Refused q) = refl
+  order-accepted : order-answer ≡ 0 → reply ≡ Accepted
+  order-accepted z = none-accepted reply (sym is-reply ∙ z)
 
-    order-unread : orderCall M p w v other ≡ orderCall M p w v cents
-    order-unread =
-        let same : orderReply M p w v other ≡ orderReply M p w v cents = rw (ne-eqb (p .kind) 1 ne) in
-        ap (ordered M p w v other) same ∙ same-answer (orderReply M p w v cents)
+  -- the worker starts with what was asked for
+  order-starts : (o : Order) → at ≡ o → entryFor (p .kind) (at .key) (at .price) ≡ content (at .key) (at .price) → order-answer ≡ 0
+      → Starts M p (o .worker) (o .key) (o .price) (orderCall M p os i w v .phase)
+  order-starts o same is z =
+      let e = order-accepted z in
+      subst (λ (x : Order). Starts M p (x .worker) (x .key) (x .price) (orderCall M p os i w v .phase)) same
+      (rw e (ordered-starts M p lacks (at .worker) (at .key) (at .price) (order-passed e .price) (at .price) is))
+
+-- each refusal but 9
+order-numbers : (M : Model) (p : Phase) (lacks : Bool) (w v cents : ℕ) → replyNumber (orderReply M p lacks w v cents) ≢ 9
+order-numbers M p lacks w v cents =
+    tested Not-9 (not (isWellFormed M p)) (λ _ e. omega arith) (λ _.
+    tested Not-9 (p .shut) (λ _ e. omega arith) (λ _.
+    tested Not-9 lacks (λ _ e. omega arith) (λ _.
+    tested Not-9 (leb (p .crew) w) (λ _ e. omega arith) (λ _.
+    tested Not-9 (not (isIdle (doing p w))) (λ _ e. omega arith) (λ _.
+    tested Not-9 (eqb v 0) (λ _ e. omega arith) (λ _.
+    tested Not-9 (mispriced (p .kind) cents) (λ _ e. omega arith) (λ _ e. omega arith)))))))
+  where
+    Not-9 : Reply → Type 0
+    Not-9 r = replyNumber r ≢ 9
 
 pub orders : OrderPromise
-orders M p w v cents =
-    let is = order-number M p w v cents in
+orders M p os i w v =
+    let is = is-reply M p os i w v in
     record {
-      answers = order-decides M p w v cents;
-      refused = λ z. by-reply (orderReply M p w v cents) (λ e. absurd (z (is ∙ ap replyNumber e))) (λ _ e. rw e);
-      accepted = λ z.
-          let e = none-accepted (orderReply M p w v cents) (sym is ∙ z) in
-          let q = order-passed M p w v cents e in
-          rw e (ordered-starts M p w v cents (q .price) (λ insert none. q .left (insert, none)));
-      unread = order-unread M p w v cents;
+      inserts = line-decides M p os i w v;
+      others = handed-decides M p os i w v;
+      never-full = λ e. let o = at M p os i w v in order-numbers M p (lacks M p os i w v) (o .worker) (o .key) (o .price) (sym is ∙ e);
+      refused = λ z. by-reply (reply M p os i w v) (λ e. absurd (z (is ∙ ap replyNumber e))) (λ _ e. rw e);
+      insert-accepted = λ one. order-starts M p os i w v (getD os i blank) (rw (eq-eqb (p .kind) 1 one)) (rw (eq-eqb (p .kind) 1 one));
+      other-accepted = λ ne. order-starts M p os i w v (orderWith v 0 w) (rw (ne-eqb (p .kind) 1 ne)) (rw (ne-eqb (p .kind) 1 ne));
+      insert-unread = λ one x y. rw (eq-eqb (p .kind) 1 one);
+      other-unread = λ ne other j. rw (ne-eqb (p .kind) 1 ne);
     }
 
 -- ---- turn
@@ -181,7 +273,6 @@ turns M p t w =
       ends = λ z kind v i j x on held h. rw (turn-accepted M p t w z) (moved-replaced M p t w kind v i j x on held h);
       carries = λ z kind v i j x on held nz h. rw (turn-accepted M p t w z) (moved-carries M p t w kind v i j x on held nz h);
       others = by-reply (turnCheck M p t w) (λ e. rw e (moved-others M p t w place)) (λ _ e. rw e (but-self w p));
-      left = by-reply (turnCheck M p t w) (λ e. rw e (moved-left M p t w place)) (λ _ e. rw e);
     }
 
 -- ---- close

@@ -20,7 +20,7 @@ use Rattle.protocol.specs.IsWellFormed.{numbersOk, workersOk, isWellForm
 -- ---- the numbers
 module _ (M : Model) (p : Phase) where
   abbrev numbers : Bool
-  numbers = numbersOk M (p .kind) (p .length) (p .crew) (p .left)
+  numbers = numbersOk M (p .kind) (p .length) (p .crew)
 
   pub ill-by-numbers : numbers ≡ false → isWellFormed M p ≡ false
   unfolding isWellFormed
@@ -63,7 +63,7 @@ module _ (M : Model) (p : Phase) (i : ℕ) (s : Passed M p i) where
   pub passed-all : M .room ≤ i → isWellFormed M p ≡ true
   passed-all h = let e : length (p .workers) ≤ i = omega arith in s .others ∙ rw (drop-of-length-le _ e)
 
-pub none-passed : (M : Model) (p : Phase) → numbersOk M (p .kind) (p .length) (p .crew) (p .left) ≡ true → length (p .workers) ≡ M .room
+pub none-passed : (M : Model) (p : Phase) → numbersOk M (p .kind) (p .length) (p .crew) ≡ true → length (p .workers) ≡ M .room
     → Passed M p 0
 none-passed M p h l = record { some = omega arith; all = l; others = by-workers M p h }
 

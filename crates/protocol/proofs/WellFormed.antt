@@ -11,7 +11,7 @@ use lib.Dec.{ltb}
 use lib.ListN.{getD}
 use borrow.Author.Tests.{lt-ltb, le-ltb}
 use Rattle.ring.proofs.Split.{by-lt}
-use Rattle.ring.proofs.Tests.{tested, not-both, less-says, both-say, within-says}
+use Rattle.ring.proofs.Tests.{tested, not-both, both-say, within-says}
 use Rattle.prices.specs.Contents.{label}
 use Rattle.activities.specs.Activities.{idle, isIdle, activityOk, Suits}
 use Rattle.activities.specs.Kinds.{kindOk}
@@ -70,21 +70,20 @@ module _ (k n m : ℕ) where
       (simp unary-clauses at (each-says (λ j a. Fine (i + j) a) x ws))
 
 -- ---- the phase state
-numbers-say : (M : Model) (k n m left : ℕ) → numbersOk M k n m left ≡ true ↔ (Kind k × (Size M n × (Crew M m × (left < n))))
-numbers-say M k n m left =
+numbers-say : (M : Model) (k n m : ℕ) → numbersOk M k n m ≡ true ↔ (Kind k × (Size M n × Crew M m))
+numbers-say M k n m =
     both-say (kindOk k) _ (within-says 1 3 k)
-    (both-say (sizeOk M n) _ (within-says (M .fewestCells) (M .mostCells) n)
-    (both-say (crewOk M m) _ (within-says (M .fewestWorkers) (M .mostWorkers) m) (less-says left n)))
+    (both-say (sizeOk M n) _ (within-says (M .fewestCells) (M .mostCells) n) (within-says (M .fewestWorkers) (M .mostWorkers) m))
 
 pub well-formed-says : (M : Model) (p : Phase) → isWellFormed M p ≡ true ↔ WellFormed M p
 unfolding isWellFormed
 well-formed-says M p =
-    let s = both-say (numbersOk M (p .kind) (p .length) (p .crew) (p .left)) _ (numbers-say M (p .kind) (p .length) (p .crew) (p .left))
+    let s = both-say (numbersOk M (p .kind) (p .length) (p .crew)) _ (numbers-say M (p .kind) (p .length) (p .crew))
     (workers-say (p .kind) (p .length) (p .crew) 0 (p .workers)) in
     let to : isWellFormed M p ≡ true → WellFormed M p = λ e.
-    let ((kind, (size, (crew, left))), each) = s .0 e in
-    record { kind = kind; size = size; crew = crew; left = left; past = λ w l. each w .0 (omega arith); workers = λ w l. each w .1 (omega arith) } in
-    (to, λ h. s .1 ((h .kind, (h .size, (h .crew, h .left))), λ w. (λ l. h .past w (omega arith), λ l. h .workers w (omega arith))))
+    let ((kind, (size, crew)), each) = s .0 e in
+    record { kind = kind; size = size; crew = crew; past = λ w l. each w .0 (omega arith); workers = λ w l. each w .1 (omega arith) } in
+    (to, λ h. s .1 ((h .kind, (h .size, h .crew)), λ w. (λ l. h .past w (omega arith), λ l. h .workers w (omega arith))))
 
 -- a worker below the count has an activity that the kind has
 pub good-worker : (M : Model) (p : Phase) → isWellFormed M p ≡ true → (w : ℕ) → w < p .crew → activityOk (p .kind) (p .length) label (doing p w) ≡ true

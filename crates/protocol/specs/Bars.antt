@@ -11,7 +11,7 @@ use Rattle.activities.specs.declared.Worker.{Worker}
 use Rattle.state.specs.Model.{Model}
 use Rattle.state.specs.Refusals.{Bar, if, unless}
 use Rattle.state.specs.declared.Phase.{Phase}
-use Rattle.state.specs.declared.Refusal.the-variants.{OtherTable, NoWorker, Blank, Busy, Full, Working, Shut, Spoilt, WrongPrice}
+use Rattle.state.specs.declared.Refusal.the-variants.{OtherTable, NoWorker, Blank, Busy, Working, Shut, Spoilt, WrongPrice, NoLine}
 use Rattle.protocol.specs.IsWellFormed.{isWellFormed}
 
 -- what worker w is doing
@@ -22,10 +22,6 @@ abbrev pub allIdle : List Worker → Bool
 allIdle [] = true
 allIdle (w ∷ ws) = cond (isIdle (w .activity)) (allIdle ws) false
 
--- an insert phase with no operations left
-abbrev pub usedUp : ℕ → ℕ → Bool
-usedUp k left = cond (eqb k 1) (eqb left 0) false
-
 -- an insert phase, and a price that no label can have
 abbrev pub mispriced : ℕ → ℕ → Bool
 mispriced k cents = cond (eqb k 1) (not (priceOk cents)) false
@@ -35,9 +31,9 @@ mispriced k cents = cond (eqb k 1) (not (priceOk cents)) false
 abbrev pub entryBars : (k v cents : ℕ) → List Bar
 entryBars k v cents = if (eqb v 0) Blank ∷ if (mispriced k cents) WrongPrice ∷ []
 
--- of an order of v to a worker doing a, in a phase of kind k with so many insert operations left: 8, the entry's, 9
-abbrev pub workerBars : (k left : ℕ) → Activity → (v cents : ℕ) → List Bar
-workerBars k left a v cents = unless (isIdle a) Busy ∷ entryBars k v cents ++ if (usedUp k left) Full ∷ []
+-- of an order of v to a worker doing a, in a phase of kind k: 8, the entry's
+abbrev pub workerBars : (k : ℕ) → Activity → (v cents : ℕ) → List Bar
+workerBars k a v cents = unless (isIdle a) Busy ∷ entryBars k v cents
 
 module _ (M : Model) (p : Phase) where
   -- of the phase state: 13, 11
@@ -49,9 +45,9 @@ module _ (M : Model) (p : Phase) where
   numberBars w = if (leb (p .crew) w) NoWorker ∷ []
 
   -- ---- the calls
-  -- order: 13, 11, 6, 8, 7, 14, 9
-  abbrev pub orderBars : (w v cents : ℕ) → List Bar
-  orderBars w v cents = phaseBars ++ numberBars w ++ workerBars (p .kind) (p .left) (doing p w) v cents
+  -- order, by a line that the list lacks or not: 13, 11, 15, 6, 8, 7, 14
+  abbrev pub orderBars : Bool → (w v cents : ℕ) → List Bar
+  orderBars lacks w v cents = phaseBars ++ if lacks NoLine ∷ numberBars w ++ workerBars (p .kind) (doing p w) v cents
 
   -- turn: 13, 11, 5, 6
   abbrev pub turnBars : List ℕ → ℕ → List Bar

@@ -1,10 +1,13 @@
 -- The calls on a phase: order, turn and close.
-use mathlib.Core.Bool.{true, cond}
+use mathlib.Core.Bool.{Bool, true, false, not, cond}
 use mathlib.Core.List.{List}
-use Prim.Native.Nat.{ℕ, _-_}
+use Prim.Native.Nat.{ℕ}
 use lib.Dec.{eqb}
 use lib.ListN.{getD, set}
 use Rattle.prices.specs.Contents.{label, content}
+use Rattle.orders.specs.Orders.{orderWith, lineAt}
+use Rattle.orders.specs.declared.Found.{Found}
+use Rattle.orders.specs.declared.Order.{Order}
 use Rattle.activities.specs.declared.Activity.{Activity}
 use Rattle.rule.specs.declared.Answer.the-variants as answer
 use Rattle.rule.specs.declared.Place.{Place}
@@ -26,22 +29,27 @@ abbrev pub turnNumber : TurnReply → ℕ
 turnNumber (turnReply.Answered a) = 0
 turnNumber (turnReply.Refused r) = numberOf r
 
--- the phase with another activity of worker w, with other insert operations left, and shut
+-- the phase with another activity of worker w, and shut
 abbrev pub withWorker : Phase → ℕ → Activity → Phase
 withWorker p w a = record {
   kind = p .kind;
   length = p .length;
   crew = p .crew;
-  left = p .left;
   shut = p .shut;
   workers = set (p .workers) w (record { activity = a });
 }
 
-abbrev pub withLeft : Phase → ℕ → Phase
-withLeft p left = record { kind = p .kind; length = p .length; crew = p .crew; left = left; shut = p .shut; workers = p .workers }
-
 abbrev pub shutPhase : Phase → Phase
-shutPhase p = record { kind = p .kind; length = p .length; crew = p .crew; left = p .left; shut = true; workers = p .workers }
+shutPhase p = record { kind = p .kind; length = p .length; crew = p .crew; shut = true; workers = p .workers }
+
+-- ---- what an order call in a phase of kind k asks for: an insert phase (put-in shift) reads the line that was found in the list lent, the others the
+-- worker w and the key v that are handed in
+abbrev pub asked : ℕ → Found → (w v : ℕ) → Order
+asked k l w v = cond (eqb k 1) (l .order) (orderWith v 0 w)
+
+-- an insert phase, and the list lacks the line
+abbrev pub missing : ℕ → Found → Bool
+missing k l = cond (eqb k 1) (not (l .there)) false
 
 -- what an order of key v at a price is for, in a phase of kind k: an insert takes the price along, the others go by the key alone
 abbrev pub entryFor : (k v cents : ℕ) → ℕ
@@ -59,22 +67,33 @@ module _ (M : Model) (p : Phase) where
   abbrev pub closeCall : Replied
   closeCall = closed closeReply
 
-  -- ---- order of key v, with its price, to worker w
-  module _ (w v cents : ℕ) where
+  -- ---- order
+  -- of key v, with its price, to worker w, by a line that the list lacks or not
+  module _ (lacks : Bool) (w v cents : ℕ) where
     abbrev pub orderReply : Reply
-    orderReply = firstOf (orderBars M p w v cents)
+    orderReply = firstOf (orderBars M p lacks w v cents)
 
-    -- the worker starts at its key's home; an insert operation takes one of those left
+    -- the worker starts at its key's home
     abbrev pub orderedPhase : Phase
-    orderedPhase =
-        withLeft (withWorker p w (start label (M .home (p .length)) (entryFor (p .kind) v cents))) (cond (eqb (p .kind) 1) (p .left - 1) (p .left))
+    orderedPhase = withWorker p w (start label (M .home (p .length)) (entryFor (p .kind) v cents))
 
     abbrev pub ordered : Reply → Replied
     ordered Accepted = record { phase = orderedPhase; reply = Accepted }
     ordered (Refused r) = record { phase = p; reply = Refused r }
 
-    abbrev pub orderCall : Replied
-    orderCall = ordered orderReply
+    abbrev pub orderTo : Replied
+    orderTo = ordered orderReply
+
+  -- of what a line that was found, or a worker and a key handed in, ask for
+  abbrev pub foundReply : Found → (w v : ℕ) → Reply
+  foundReply l w v = let o = asked (p .kind) l w v in orderReply (missing (p .kind) l) (o .worker) (o .key) (o .price)
+
+  abbrev pub orderFound : Found → (w v : ℕ) → Replied
+  orderFound l w v = let o = asked (p .kind) l w v in orderTo (missing (p .kind) l) (o .worker) (o .key) (o .price)
+
+  -- the call: line i of the list lent, or worker w and key v
+  abbrev pub orderCall : List Order → (i w v : ℕ) → Replied
+  orderCall os i w v = orderFound (lineAt os i) w v
 
   -- ---- turn of worker w on the table t
   module _ (t : List ℕ) (w : ℕ) where

@@ -10,9 +10,9 @@ use Rattle.activities.specs.declared.Worker.{Worker}
 use Rattle.state.specs.Model.{Model, sizeOk, crewOk}
 use Rattle.state.specs.declared.Phase.{Phase}
 
--- kind, length, worker count and insert operations left are within their bounds
-abbrev pub numbersOk : Model → (k n m left : ℕ) → Bool
-numbersOk M k n m left = cond (kindOk k) (cond (sizeOk M n) (cond (crewOk M m) (ltb left n) false) false) false
+-- kind, length and worker count are within their bounds
+abbrev pub numbersOk : Model → (k n m : ℕ) → Bool
+numbersOk M k n m = cond (kindOk k) (cond (sizeOk M n) (crewOk M m) false) false
 
 -- of the workers from number i on, those below m have an activity that the kind has, and those past it are idle
 abbrev pub workersOk : (k n m i : ℕ) → List Worker → Bool
@@ -21,4 +21,4 @@ workersOk k n m i (w ∷ ws) = cond (cond (ltb i m) (activityOk k n label (w .ac
 
 unfoldable pub isWellFormed : Model → Phase → Bool
 isWellFormed M p =
-    cond (numbersOk M (p .kind) (p .length) (p .crew) (p .left)) (workersOk (p .kind) (p .length) (p .crew) 0 (p .workers)) false
+    cond (numbersOk M (p .kind) (p .length) (p .crew)) (workersOk (p .kind) (p .length) (p .crew) 0 (p .workers)) false

@@ -4,12 +4,14 @@ use mathlib.Core.Path.{_≡_}
 use mathlib.Core.Logic.{_≢_, _↔_, _⊎_}
 use mathlib.Core.Bool.{Bool, true, false}
 use mathlib.Core.List.{List, [], _∷_, _++_}
-use Prim.Native.Nat.{ℕ, suc, _≤_, _<_}
+use Prim.Native.Nat.{ℕ, _≤_, _<_}
 use lib.ListN.{length, getD}
 use Rattle.ring.specs.Ring.{next}
-use Rattle.layout.specs.Sound.{Holds, vacant, Ordered}
+use Rattle.layout.specs.Sound.{Holds, Ordered}
 use Rattle.prices.specs.Contents.{label, price, content, SoundTable}
 use Rattle.prices.specs.Priced.{labels}
+use Rattle.orders.specs.Orders.{blank}
+use Rattle.orders.specs.declared.Order.{Order}
 use Rattle.activities.specs.Activities.{entryOf}
 use Rattle.activities.specs.declared.Activity.{Activity}
 use Rattle.activities.specs.declared.Activity.the-variants.{Idle, Reading, Replacing, WalkingBack, SeekingForward, SeekingBack}
@@ -26,6 +28,7 @@ use Rattle.protocol.specs.Bars.{doing}
 use Rattle.protocol.specs.Calls.{turnNumber, closeCall, orderCall, turnCall, turnTable}
 use Rattle.protocol.specs.Cases.{Case, case, wants, forbids, Decides}
 use Rattle.protocol.specs.IsWellFormed.{isWellFormed}
+use Rattle.protocol.specs.Lines.{Priced, Mispriced, Good, lineCases, Fills}
 use Rattle.protocol.specs.WellFormed.{Size, Crew, Kind, WellFormed}
 use Rattle.protocol.specs.declared.TurnReply.the-variants.{Answered}
 
@@ -35,7 +38,7 @@ WellFormedPromise = (M : Model) (p : Phase) → isWellFormed M p ≡ true ↔ We
 
 -- ---- no call spoils a phase state that is well formed, whether an opening and calls led to it or not
 pub record Keeps (M : Model) (p : Phase) : Type 0 where
-  pub order : (w v cents : ℕ) → WellFormed M (orderCall M p w v cents .phase)
+  pub order : (os : List Order) (i w v : ℕ) → WellFormed M (orderCall M p os i w v .phase)
   pub turn : (t : List ℕ) (w : ℕ) → WellFormed M (turnCall M p t w .phase)
   pub close : WellFormed M (closeCall M p .phase)
 
@@ -43,10 +46,10 @@ abbrev pub KeepsPromise : Type 0
 KeepsPromise = (M : Model) → Proper M → (p : Phase) → WellFormed M p → Keeps M p
 
 -- ---- no record made by an opening and later calls is ever spoilt
--- made by an opening, accepted or refused, and later calls, each with any numbers and any table; the service call is the turn by its contract
+-- made by an opening, accepted or refused, and later calls, each with any numbers, any table and any list; the service call is the turn by its contract
 pub data Made (M : Model) : Phase → Type 0 where
-  opened : (k m : ℕ) (t : List ℕ) → Made M (openCall M k m t .phase)
-  ordered : (p : Phase) → Made M p → (w v cents : ℕ) → Made M (orderCall M p w v cents .phase)
+  opened : (k m : ℕ) (t : List ℕ) (os : List Order) → Made M (openCall M k m t os .phase)
+  ordered : (p : Phase) → Made M p → (os : List Order) (i w v : ℕ) → Made M (orderCall M p os i w v .phase)
   turned : (p : Phase) → Made M p → (t : List ℕ) (w : ℕ) → Made M (turnCall M p t w .phase)
   closed : (p : Phase) → Made M p → Made M (closeCall M p .phase)
 
@@ -83,8 +86,24 @@ sizeCases M t = wants 1 (Size M (length t)) ∷ []
 abbrev pub soundCases : Model → List ℕ → List Case
 soundCases M t = wants 4 (Soundness M t) ∷ []
 
-abbrev pub openCases : Model → ℕ → ℕ → List ℕ → List Case
-openCases M k m t = sizeCases M t ++ wants 2 (Crew M m) ∷ wants 3 (Kind k) ∷ soundCases M t
+-- of the numbers handed in: 1, 2, 3
+abbrev pub limitCases : Model → ℕ → ℕ → List ℕ → List Case
+limitCases M k m t = sizeCases M t ++ wants 2 (Crew M m) ∷ wants 3 (Kind k) ∷ []
+
+-- of the list: its length (16), and that it has too many labels (9)
+abbrev pub longCases : Model → List Order → List Case
+longCases M os = case 16 (length os ≤ M .mostLines) (M .mostLines < length os) ∷ []
+
+abbrev pub fullCases : List ℕ → List Order → List Case
+fullCases t os = forbids 9 (Fills t os) ∷ []
+
+-- an insert phase (put-in shift): then 16, 4, the lines' 7, 14 and 6, and 9
+abbrev pub insertCases : Model → ℕ → ℕ → List ℕ → List Order → List Case
+insertCases M k m t os = limitCases M k m t ++ longCases M os ++ soundCases M t ++ lineCases m os ++ fullCases t os
+
+-- any other: then 4
+abbrev pub otherCases : Model → ℕ → ℕ → List ℕ → List Case
+otherCases M k m t = limitCases M k m t ++ soundCases M t
 
 -- a phase state of kind k, length n and m workers, shut or not, with places for all workers that the model allows, and all of them idle
 pub record Resting (M : Model) (k n m : ℕ) (ended : Bool) (p : Phase) : Type 0 where
@@ -95,20 +114,21 @@ pub record Resting (M : Model) (k n m : ℕ) (ended : Bool) (p : Phase) : Type 0
   pub places : length (p .workers) ≡ M .room
   pub rest : (w : ℕ) → doing p w ≡ Idle
 
-pub record Openings (M : Model) (k m : ℕ) (t : List ℕ) : Type 0 where
-  pub reply : openCall M k m t .reply ≡ openReply M k m t
-  pub answers : Decides (replyNumber (openCall M k m t .reply)) (openCases M k m t)
+pub record Openings (M : Model) (k m : ℕ) (t : List ℕ) (os : List Order) : Type 0 where
+  pub reply : openCall M k m t os .reply ≡ openReply M k m t os
+  pub inserts : k ≡ 1 → Decides (replyNumber (openCall M k m t os .reply)) (insertCases M k m t os)
+  pub others : k ≢ 1 → Decides (replyNumber (openCall M k m t os .reply)) (otherCases M k m t)
   -- a refused opening hands back a shut record of kind 3, length 2 and one worker, all idle
-  pub refused : replyNumber (openCall M k m t .reply) ≢ 0 → Resting M 3 2 1 true (openCall M k m t .phase)
-  pub refused-left : replyNumber (openCall M k m t .reply) ≢ 0 → openCall M k m t .phase .left ≡ 0
+  pub refused : replyNumber (openCall M k m t os .reply) ≢ 0 → Resting M 3 2 1 true (openCall M k m t os .phase)
   -- an accepted one an open record as it was asked for
-  pub accepted : replyNumber (openCall M k m t .reply) ≡ 0 → Resting M k (length t) m false (openCall M k m t .phase)
-  -- the orders that an insert phase takes are the empty cells at opening less one; outside insert phases 0 are left
-  pub insert-left : replyNumber (openCall M k m t .reply) ≡ 0 → k ≡ 1 → suc (openCall M k m t .phase .left) ≡ vacant t
-  pub other-left : replyNumber (openCall M k m t .reply) ≡ 0 → k ≢ 1 → openCall M k m t .phase .left ≡ 0
+  pub accepted : replyNumber (openCall M k m t os .reply) ≡ 0 → Resting M k (length t) m false (openCall M k m t os .phase)
+  -- an insert phase opens with good lines alone
+  pub lines : k ≡ 1 → replyNumber (openCall M k m t os .reply) ≡ 0 → (i : ℕ) → i < length os → Good m (getD os i blank)
+  -- outside insert phases the list is not read
+  pub unread : k ≢ 1 → (other : List Order) → openCall M k m t other ≡ openCall M k m t os
 
 abbrev pub OpenPromise : Type 0
-OpenPromise = (M : Model) (k m : ℕ) (t : List ℕ) → Openings M k m t
+OpenPromise = (M : Model) (k m : ℕ) (t : List ℕ) (os : List Order) → Openings M k m t os
 
 -- ---- parts of the other calls' cases
 abbrev pub phaseCases : Model → Phase → List Case
@@ -117,9 +137,9 @@ phaseCases M p = wants 13 (WellFormed M p) ∷ case 11 (p .shut ≡ false) (p .s
 abbrev pub numberCases : Phase → ℕ → List Case
 numberCases p w = case 6 (w < p .crew) (p .crew ≤ w) ∷ []
 
--- of an entry: key 0; in an insert phase (put-in shift) a price of 0 or above 9,999,999
-abbrev pub entryCases : (k v cents : ℕ) → List Case
-entryCases k v cents = forbids 7 (v ≡ 0) ∷ case 14 (k ≡ 1 → (1 ≤ cents) × (cents ≤ 9999999)) ((k ≡ 1) × ((cents ≡ 0) ⊎ (9999999 < cents))) ∷ []
+-- of a worker that gets an order of key v: 6, 8, 7
+abbrev pub workerCases : Phase → (w v : ℕ) → List Case
+workerCases p w v = numberCases p w ++ wants 8 (doing p w ≡ Idle) ∷ forbids 7 (v ≡ 0) ∷ []
 
 -- ---- what calls leave
 -- two phase states of one kind, length and worker count, with as many places for workers
@@ -129,41 +149,52 @@ pub record Framed (p q : Phase) : Type 0 where
   pub crew : q .crew ≡ p .crew
   pub places : length (q .workers) ≡ length (p .workers)
 
--- q is p but for worker w and the insert operations left
+-- q is p but for worker w
 pub record ButFor (w : ℕ) (p q : Phase) : Type 0 where
   pub frame : Framed p q
   pub shut : q .shut ≡ p .shut
   pub others : (u : ℕ) → u ≢ w → doing q u ≡ doing p u
 
 -- ---- order
--- an insert phase (put-in shift) with no operations (orders) left
-abbrev pub UsedUp : Phase → Type 0
-UsedUp p = (p .kind ≡ 1) × (p .left ≡ 0)
+-- of a line number, and of a price: 15, 14
+abbrev pub thereCases : List Order → ℕ → List Case
+thereCases os i = case 15 (i < length os) (length os ≤ i) ∷ []
 
-abbrev pub orderCases : Model → Phase → (w v cents : ℕ) → List Case
-orderCases M p w v cents =
-    phaseCases M p ++ numberCases p w ++ wants 8 (doing p w ≡ Idle) ∷ entryCases (p .kind) v cents ++ forbids 9 (UsedUp p) ∷ []
+abbrev pub priceCases : ℕ → List Case
+priceCases cents = case 14 (Priced cents) (Mispriced cents) ∷ []
+
+-- an insert phase (put-in shift), by line i of the list: 13, 11, 15 and then the line's 6, 8, 7 and 14
+abbrev pub lineOrderCases : Model → Phase → List Order → ℕ → List Case
+lineOrderCases M p os i =
+    phaseCases M p ++ thereCases os i ++ workerCases p (getD os i blank .worker) (getD os i blank .key) ++ priceCases (getD os i blank .price)
+
+-- any other, by the worker w and the key v handed in: 13, 11, 6, 8, 7
+abbrev pub handedCases : Model → Phase → (w v : ℕ) → List Case
+handedCases M p w v = phaseCases M p ++ workerCases p w v
 
 -- q is p after an accepted order of key v, with its price, to worker w
 pub record Starts (M : Model) (p : Phase) (w v cents : ℕ) (q : Phase) : Type 0 where
   pub others : ButFor w p q
-  -- the worker starts at its key's home, in an insert phase with the price ordered, else without any. A list of workers has no fixed length; the code's
-  -- array, and every list that calls make (`PlacesPromise`), has a place for each worker
-  pub starts-priced : p .kind ≡ 1 → w < length (p .workers) → doing q w ≡ Reading (content v cents) (M .home (p .length) v)
-  pub starts : p .kind ≢ 1 → w < length (p .workers) → doing q w ≡ Reading (content v 0) (M .home (p .length) v)
-  -- an insert operation takes one of those left, any other none
-  pub takes-one : p .kind ≡ 1 → suc (q .left) ≡ p .left
-  pub takes-none : p .kind ≢ 1 → q .left ≡ p .left
+  -- the worker starts at its key's home, with the price ordered. A list of workers has no fixed length; the code's array, and every list that calls make
+  -- (`PlacesPromise`), has a place for each worker
+  pub starts : w < length (p .workers) → doing q w ≡ Reading (content v cents) (M .home (p .length) v)
 
-pub record Orders (M : Model) (p : Phase) (w v cents : ℕ) : Type 0 where
-  pub answers : Decides (replyNumber (orderCall M p w v cents .reply)) (orderCases M p w v cents)
-  pub refused : replyNumber (orderCall M p w v cents .reply) ≢ 0 → orderCall M p w v cents .phase ≡ p
-  pub accepted : replyNumber (orderCall M p w v cents .reply) ≡ 0 → Starts M p w v cents (orderCall M p w v cents .phase)
-  -- outside insert phases the price is not read
-  pub unread : p .kind ≢ 1 → (other : ℕ) → orderCall M p w v other ≡ orderCall M p w v cents
+pub record Orders (M : Model) (p : Phase) (os : List Order) (i w v : ℕ) : Type 0 where
+  pub inserts : p .kind ≡ 1 → Decides (replyNumber (orderCall M p os i w v .reply)) (lineOrderCases M p os i)
+  pub others : p .kind ≢ 1 → Decides (replyNumber (orderCall M p os i w v .reply)) (handedCases M p w v)
+  -- no order is refused as full
+  pub never-full : replyNumber (orderCall M p os i w v .reply) ≢ 9
+  pub refused : replyNumber (orderCall M p os i w v .reply) ≢ 0 → orderCall M p os i w v .phase ≡ p
+  -- an accepted one starts the line's worker with the line's key and price; outside insert phases the worker handed in, with that key and no price
+  pub insert-accepted : p .kind ≡ 1 → replyNumber (orderCall M p os i w v .reply) ≡ 0
+      → Starts M p (getD os i blank .worker) (getD os i blank .key) (getD os i blank .price) (orderCall M p os i w v .phase)
+  pub other-accepted : p .kind ≢ 1 → replyNumber (orderCall M p os i w v .reply) ≡ 0 → Starts M p w v 0 (orderCall M p os i w v .phase)
+  -- an insert phase reads neither the worker nor the key handed in, the others neither the list nor the line number
+  pub insert-unread : p .kind ≡ 1 → (x y : ℕ) → orderCall M p os i x y ≡ orderCall M p os i w v
+  pub other-unread : p .kind ≢ 1 → (other : List Order) (j : ℕ) → orderCall M p other j w v ≡ orderCall M p os i w v
 
 abbrev pub OrderPromise : Type 0
-OrderPromise = (M : Model) (p : Phase) (w v cents : ℕ) → Orders M p w v cents
+OrderPromise = (M : Model) (p : Phase) (os : List Order) (i w v : ℕ) → Orders M p os i w v
 
 -- ---- turn
 abbrev pub turnCases : Model → Phase → List ℕ → ℕ → List Case
@@ -222,7 +253,6 @@ pub record Turns (M : Model) (p : Phase) (t : List ℕ) (w : ℕ) : Type 0 where
       → label x ≢ 0 → (label x ≡ label v → price x ≤ price v) → doing (turnCall M p t w .phase) w ≡ Reading x (next (p .length) i)
   -- refused or not, a turn leaves all of the phase state but its own worker
   pub others : ButFor w p (turnCall M p t w .phase)
-  pub left : turnCall M p t w .phase .left ≡ p .left
 
 abbrev pub TurnPromise : Type 0
 TurnPromise = (M : Model) (p : Phase) (t : List ℕ) (w : ℕ) → Turns M p t w
@@ -238,7 +268,6 @@ closeCases M p = phaseCases M p ++ case 10 ((w : ℕ) → doing p w ≡ Idle) (U
 -- q is p after an accepted close: it is shut, and all else is as before
 pub record Ends (p q : Phase) : Type 0 where
   pub frame : Framed p q
-  pub left : q .left ≡ p .left
   pub shut : q .shut ≡ true
   pub workers : q .workers ≡ p .workers
 

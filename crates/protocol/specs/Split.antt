@@ -1,11 +1,12 @@
 -- An order and a turn of one worker apart from its phase, for code that deals many calls.
 use mathlib.Core.Path.{_≡_}
-use mathlib.Core.Bool.{false, cond}
+use mathlib.Core.Bool.{false}
 use mathlib.Core.List.{List}
-use Prim.Native.Nat.{ℕ, _-_, _<_}
-use lib.Dec.{eqb}
+use Prim.Native.Nat.{ℕ, _<_}
 use lib.ListN.{length, getD, set}
 use Rattle.prices.specs.Contents.{label}
+use Rattle.orders.specs.Orders.{lineAt}
+use Rattle.orders.specs.declared.Order.{Order}
 use Rattle.activities.specs.Activities.{idle}
 use Rattle.activities.specs.declared.Worker.{Worker}
 use Rattle.rule.specs.declared.Answer.the-variants as answer
@@ -18,7 +19,7 @@ use Rattle.state.specs.declared.Phase.{Phase}
 use Rattle.state.specs.declared.Reply.{Reply}
 use Rattle.state.specs.declared.Reply.the-variants.{Accepted, Refused}
 use Rattle.protocol.specs.Bars.{workerBars}
-use Rattle.protocol.specs.Calls.{entryFor, withWorker, withLeft, orderCall, turnCall, turnTable}
+use Rattle.protocol.specs.Calls.{asked, missing, entryFor, withWorker, orderCall, turnCall, turnTable}
 use Rattle.protocol.specs.WellFormed.{WellFormed}
 use Rattle.protocol.specs.declared.Given.{Given}
 use Rattle.protocol.specs.declared.Moved.{Moved}
@@ -42,35 +43,34 @@ module _ (M : Model) (k n : ℕ) (t : List ℕ) (w : Worker) where
   abbrev pub oneTable : List ℕ
   oneTable = oneCellsAt (touched (w .activity))
 
-module _ (M : Model) (k n left : ℕ) (w : Worker) (v cents : ℕ) where
-  -- refusals 8, 7, 14 and 9
+module _ (M : Model) (k n : ℕ) (w : Worker) (v cents : ℕ) where
+  -- refusals 8, 7 and 14
   abbrev pub oneReply : Reply
-  oneReply = firstOf (workerBars k left (w .activity) v cents)
+  oneReply = firstOf (workerBars k (w .activity) v cents)
 
   abbrev pub oneGiven : Reply → Given
-  oneGiven Accepted = record {
-    worker = record { activity = start label (M .home n) (entryFor k v cents) };
-    left = cond (eqb k 1) (left - 1) left;
-    reply = Accepted;
-  }
-  oneGiven (Refused r) = record { worker = w; left = left; reply = Refused r }
+  oneGiven Accepted = record { worker = record { activity = start label (M .home n) (entryFor k v cents) }; reply = Accepted }
+  oneGiven (Refused r) = record { worker = w; reply = Refused r }
 
-  -- the worker, the insert operations left and the answer after an order
+  -- the worker and the answer after an order
   abbrev pub oneOrder : Given
   oneOrder = oneGiven oneReply
 
--- ---- put back into a well-formed, open phase state that has the worker, they are the calls themselves
+-- ---- put back into a well-formed, open phase state that has the worker, they are the calls themselves; of an order in an insert phase, where the list has
+-- the line
 pub record SplitTurn (M : Model) (p : Phase) (t : List ℕ) (w : ℕ) : Type 0 where
   pub phase : turnCall M p t w .phase ≡ withWorker p w (oneTurn M (p .kind) (p .length) t (getD (p .workers) w idle) .worker .activity)
   pub reply : turnCall M p t w .reply ≡ oneTurn M (p .kind) (p .length) t (getD (p .workers) w idle) .reply
   pub table : turnTable M p t w ≡ oneTable M (p .kind) (p .length) t (getD (p .workers) w idle)
 
-pub record SplitOrder (M : Model) (p : Phase) (w v cents : ℕ) : Type 0 where
-  pub phase : orderCall M p w v cents .phase
-      ≡ (let one = oneOrder M (p .kind) (p .length) (p .left) (getD (p .workers) w idle) v cents in
-      withLeft (withWorker p w (one .worker .activity)) (one .left))
-  pub reply : orderCall M p w v cents .reply ≡ oneOrder M (p .kind) (p .length) (p .left) (getD (p .workers) w idle) v cents .reply
+pub record SplitOrder (M : Model) (p : Phase) (os : List Order) (i w v : ℕ) : Type 0 where
+  pub phase : orderCall M p os i w v .phase
+      ≡ (let o = asked (p .kind) (lineAt os i) w v in
+      withWorker p (o .worker) (oneOrder M (p .kind) (p .length) (getD (p .workers) (o .worker) idle) (o .key) (o .price) .worker .activity))
+  pub reply : orderCall M p os i w v .reply
+      ≡ (let o = asked (p .kind) (lineAt os i) w v in oneOrder M (p .kind) (p .length) (getD (p .workers) (o .worker) idle) (o .key) (o .price) .reply)
 
 pub record SplitPromise : Type 0 where
   pub turn : (M : Model) (p : Phase) → WellFormed M p → p .shut ≡ false → (t : List ℕ) → p .length ≡ length t → (w : ℕ) → w < p .crew → SplitTurn M p t w
-  pub order : (M : Model) (p : Phase) → WellFormed M p → p .shut ≡ false → (w : ℕ) → w < p .crew → (v cents : ℕ) → SplitOrder M p w v cents
+  pub order : (M : Model) (p : Phase) → WellFormed M p → p .shut ≡ false → (os : List Order) (i w v : ℕ) → missing (p .kind) (lineAt os i) ≡ false
+      → asked (p .kind) (lineAt os i) w v .worker < p .crew → SplitOrder M p os i w v

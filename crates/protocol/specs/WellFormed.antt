@@ -22,8 +22,6 @@ pub record WellFormed (M : Model) (p : Phase) : Type 0 where
   pub kind : Kind (p .kind)
   pub size : Size M (p .length)
   pub crew : Crew M (p .crew)
-  -- the insert operations (put-in orders) left are fewer than the length
-  pub left : p .left < p .length
   -- a worker past the count is idle
   pub past : (w : ℕ) → p .crew ≤ w → doing p w ≡ Idle
   pub workers : (w : ℕ) → w < p .crew → Suits (p .kind) (p .length) label (doing p w)

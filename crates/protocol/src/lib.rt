@@ -22,9 +22,8 @@ pub struct Moved {
     pub reply: TurnReply,
 }
 
-// A worker after an order, the insert operations left, and the answer.
+// A worker after an order, and the answer.
 pub struct Given {
     pub worker: Worker,
-    pub left: u32,
     pub reply: Reply,
 }

@@ -10,6 +10,7 @@ use lib.ListN.{length, take}
 use Rattle.io.specs.Counts.{Counts, clamped}
 use Rattle.text.proofs.Test.{true-false}
 use Rattle.lines.specs.Grammar.{keptBytes}
+use Rattle.fitting.specs.Fitting.{itemPlaces}
 use Rattle.feed.specs.Feed.{Kept}
 use Rattle.blocks.specs.declared.Carried.{Carried}
 use Rattle.replay.specs.declared.Passed.{Passed}
@@ -22,12 +23,14 @@ use Rattle.sheet.specs.Replay.{mostSheetCells}
 pub not-below : (t : ℤ) → ltZ t (pos 0) ≡ false → (j : ℕ) → t ≡ negsuc j → ⊥
 not-below t h j e = true-false (subst (λ (s : ℤ). ltZ s (pos 0) ≡ false) e h)
 
-pub fewer : {c : Carried} {line cells : List ℕ} (block : List ℕ) (n : ℕ) → Counts n block → Fit c line cells (length block) → Fit c line cells (length (take n block))
-fewer block n counts fit = record { held = fit .held; goes = fit .goes; line-long = fit .line-long; countable = omega (arith, fit .countable, counts .0, counts .1) }
+pub fewer : {c : Carried} {line cells items : List ℕ} (block : List ℕ) (n : ℕ) → Counts n block → Fit c line cells items (length block)
+    → Fit c line cells items (length (take n block))
+fewer block n counts fit =
+    record { held = fit .held; goes = fit .goes; line-long = fit .line-long; countable = omega (arith, fit .countable, counts .0, counts .1) }
 
 module _ {got : ℤ} {block : List ℕ} {n : ℕ} (counts : Counts n block) (e : n ≡ clamped got (length block)) where
-  pub brings-none : {c : Carried} {line cells : List ℕ} {l : ℕ} → Fit c line cells l
-      → Brings (keptOf c line cells) got block line cells (record { carried = c; count = n; working = false })
+  pub brings-none : {c : Carried} {line cells items : List ℕ} {l : ℕ} → Fit c line cells items l
+      → Brings (keptOf c line cells items) got block line cells items (record { carried = c; count = n; working = false })
   brings-none fit =
       record {
         count = e;
@@ -38,16 +41,25 @@ module _ {got : ℤ} {block : List ℕ} {n : ℕ} (counts : Counts n block) (e :
         within = counts .0;
       }
 
-  pub brings : ((j : ℕ) → got ≡ negsuc j → ⊥) → {k : Kept} {line′ cells′ : List ℕ} {r : Passed} → Passes k (take n block) line′ cells′ r
-      → Brings k got block line′ cells′ (record { carried = r .carried; count = n; working = r .written })
-  brings whole p = record { count = e; kept = p .kept; failed = λ j z. absurd (whole j z); held = p .held; few = omega (arith, p .few, counts .1); within = counts .0 }
+  pub brings : ((j : ℕ) → got ≡ negsuc j → ⊥) → {k : Kept} {line′ cells′ items′ : List ℕ} {r : Passed} → Passes k (take n block) line′ cells′ items′ r
+      → Brings k got block line′ cells′ items′ (record { carried = r .carried; count = n; working = r .written })
+  brings whole p =
+      record {
+        count = e;
+        kept = p .kept;
+        failed = λ j z. absurd (whole j z);
+        held = p .held;
+        few = omega (arith, p .few, counts .1);
+        within = counts .0;
+      }
 
 -- ---- before each read: no more lines than bytes were read
-pub record Reading (cells block out line : List ℕ) (c : Carried) (left : ℕ) : Type 0 where
-  pub held : Held c cells
+pub record Reading (cells items block out line : List ℕ) (c : Carried) (left : ℕ) : Type 0 where
+  pub held : Held c cells items
   pub goes : c .ended ≡ false
   pub few : c .number + left ≤ 18446744073709551615
   pub cells-long : length cells ≡ mostSheetCells
+  pub items-long : length items ≡ itemPlaces
   pub block-long : length block ≡ 65536
   pub out-long : length out ≡ 196608
   pub line-long : length line ≡ keptBytes

@@ -44,15 +44,17 @@ fn block_done(
     block: &[u8],
     line: &mut [u8],
     cells: &mut [u64],
+    items: &mut [u32],
     out: &mut [u8],
 ) -> Passed
-    requires { ⌜ Fit carried (now line) (now cells) (length (now block)) × (longestAnswer ≤ length (now out)) ⌝ }
-    ensures { λ r. ⌜ Passes (keptOf carried (now (line .entry)) (now (cells .entry))) (now (block .entry)) (now (line .exit)) (now (cells .exit)) r ⌝ }
+    requires { ⌜ Fit carried (now line) (now cells) (now items) (length (now block)) × (longestAnswer ≤ length (now out)) ⌝ }
+    ensures { λ r. ⌜ Passes (keptOf carried (now (line .entry)) (now (cells .entry)) (now (items .entry))) (now (block .entry))
+        (now (line .exit)) (now (cells .exit)) (now (items .exit)) r ⌝ }
 {
     let mut kept = carried;
     let mut from: usize = 0;
     while from < block.len() {
-        let filled = blocks::fill(kept, &block[from..], line, cells, out);
+        let filled = blocks::fill(kept, &block[from..], line, cells, items, out);
         let next = filled.carried;
         kept = next;
         from += filled.next;
@@ -83,10 +85,12 @@ fn read_done(
     block: &[u8],
     line: &mut [u8],
     cells: &mut [u64],
+    items: &mut [u32],
     out: &mut [u8],
 ) -> Brought
-    requires { ⌜ Fit carried (now line) (now cells) (length (now block)) × (longestAnswer ≤ length (now out)) ⌝ }
-    ensures { λ r. ⌜ Brings (keptOf carried (now (line .entry)) (now (cells .entry))) got (now (block .entry)) (now (line .exit)) (now (cells .exit)) r ⌝ }
+    requires { ⌜ Fit carried (now line) (now cells) (now items) (length (now block)) × (longestAnswer ≤ length (now out)) ⌝ }
+    ensures { λ r. ⌜ Brings (keptOf carried (now (line .entry)) (now (cells .entry)) (now (items .entry))) got (now (block .entry))
+        (now (line .exit)) (now (cells .exit)) (now (items .exit)) r ⌝ }
 {
     let count = io::count(got, block);
     if got < 0 {
@@ -97,7 +101,7 @@ fn read_done(
             working: false,
         };
     }
-    let passed = block_done(carried, &block[..count], line, cells, out);
+    let passed = block_done(carried, &block[..count], line, cells, items, out);
     let next = passed.carried;
     Brought {
         carried: next,
@@ -108,6 +112,7 @@ fn read_done(
 
 fn main() {
     let mut cells = [0u64; Replay::MOST_CELLS];
+    let mut items = [0u32; fitting::ITEM_PLACES];
     let mut block = [0u8; BLOCK];
     let mut out = [0u8; OUTPUT];
     let mut line = [0u8; Line::KEPT];
@@ -115,7 +120,15 @@ fn main() {
     let mut left: u64 = 18446744073709551615;
     while (BLOCK as u64) < left {
         let got = libc::read(0, &mut block);
-        let brought = read_done(carried, got, &block, &mut line, &mut cells, &mut out);
+        let brought = read_done(
+            carried,
+            got,
+            &block,
+            &mut line,
+            &mut cells,
+            &mut items,
+            &mut out,
+        );
         let next = brought.carried;
         carried = next;
         if !brought.working {
@@ -126,7 +139,7 @@ fn main() {
         }
         let count = brought.count;
         if count == 0 {
-            let at = blocks::last_line(carried, &line, &mut cells, &mut out);
+            let at = blocks::last_line(carried, &line, &mut cells, &mut items, &mut out);
             flush(&out, at);
             return;
         }

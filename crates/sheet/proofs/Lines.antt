@@ -6,16 +6,15 @@ use mathlib.Core.List.{List, [], _∷_, _++_, map}
 use Prim.Native.Nat.{ℕ, _≤_, _<_}
 use native.Mathlib.Omega.{arith}
 use borrow.Author.Tests.{lt-ltb, le-ltb, eq-eqb, ne-eqb}
-use lib.Dec.{eqb}
-use lib.ListN.{length, take, length-map}
-use Rattle.activities.specs.Activities.{isIdle}
+use lib.Dec.{ltb}
+use lib.ListN.{length, getD, take, length-map}
+use Rattle.orders.specs.declared.Order.{Order}
 use Rattle.words.specs.Words.{entriesOf, countOf}
 use Rattle.words.proofs.Theorem.{theorem as listing}
 use Rattle.words.proofs.Words.{occupied-le}
 use Rattle.state.specs.Model.{gateway}
 use Rattle.state.specs.Open.{openCall}
-use Rattle.state.specs.Refusals.{if, unless, firstOf}
-use Rattle.state.specs.declared.Refusal.the-variants.{Blank, Busy, Full, WrongPrice}
+use Rattle.state.specs.declared.Refusal.{Refusal}
 use Rattle.state.specs.declared.Replied.{Replied}
 use Rattle.state.specs.declared.Reply.{Reply}
 use Rattle.state.specs.declared.Reply.the-variants.{Accepted, Refused}
@@ -23,25 +22,29 @@ use Rattle.tables.specs.Calls.{checkCall, listCall}
 use Rattle.tables.specs.declared.Counted.{Counted}
 use Rattle.tables.specs.declared.Counted.the-variants as counted
 use Rattle.tables.proofs.Answers.{list-by}
-use Rattle.protocol.specs.Bars.{doing, usedUp, mispriced, phaseBars, numberBars}
-use Rattle.protocol.specs.Calls.{closeCall, orderReply, ordered, orderCall, turnCall}
+use Rattle.protocol.specs.Calls as protocol
+use Rattle.protocol.specs.Calls.{closeReply, closeCall, orderCall, turnCall}
+use Rattle.protocol.proofs.Chain.{by-reply}
+use Rattle.protocol.proofs.Theorem.{orders}
 use Rattle.text.specs.Bytes.{bytesOf}
 use Rattle.text.specs.Digits.{digitsOf}
 use Rattle.text.specs.Fields.{fieldsOf}
-use Rattle.ring.proofs.Tests.{not-both}
+use Rattle.ring.proofs.Tests.{tested, not-both}
 use Rattle.text.proofs.Test.{by-test, by-lt}
 use Rattle.lines.specs.Grammar.{wordOf, known, mostNumbers, padded, readingOf}
 use Rattle.lines.specs.declared.Command.{Command}
 use Rattle.lines.specs.declared.Line.{Line}
+use Rattle.fitting.specs.declared.Handling.{Handling}
 use Rattle.fitting.specs.declared.Handling.the-variants.{Performed}
 use Rattle.fitting.specs.declared.Reading.{Reading}
 use Rattle.fitting.specs.declared.Reading.the-variants.{Todo}
 use Rattle.fitting.specs.declared.Reading.the-variants as reading
 use Rattle.fitting.specs.declared.Task.the-variants.{Perform, Refuse}
-use Rattle.fitting.specs.Fitting.{orderNumbers, rowOf, fitsRow, handled, handlingIn, readingIn}
+use Rattle.fitting.specs.Fitting.{mostItems, orderNumbers, itemHandling, rowOf, fitsRow, handled, handlingIn, readingIn}
+use Rattle.fitting.proofs.Fitting.{handled-performed}
 use Rattle.dealing.specs.Deal as dealing
 use Rattle.printing.specs.Fields.{replyFields, finishFields, toldFields}
-use Rattle.sheet.specs.Replay.{State, Answer, answered, answerOf, noFinishes, listTold}
+use Rattle.sheet.specs.Replay.{State, Step, Answer, answered, answerOf, noFinishes, mostSheetCells, cellsTask, itemsAfter, commanded, listTold}
 use Rattle.sheet.specs.Promise.{line, FirstIs, greatest, InRange, Unreadable, refusedText, workersText, finishText, stateWith, Does, Bad}
 use Rattle.sheet.specs.Promise.{InShut, InOpen, InEither}
 use Rattle.sheet.proofs.Ran.{run-crew, run-places}
@@ -50,23 +53,28 @@ use Rattle.sheet.proofs.Unreadable.{fields-written}
 use Rattle.sheet.proofs.Written.{order-first, nameOf, lineWith, read-line, fits-form, unreadable-fits, first-says, says-first}
 
 -- ---- what does not fit is bad, unless every line of the command is refused, which is so of `order` in a shut phase alone
-bad-unless : (k : ℕ) (shut : Bool) (c : Command) → (shut ≡ true → c ≢ Command.Order) → handled (handlingIn shut (rowOf k c)) false c ≡ reading.Bad
-bad-unless k true Command.Cells h = refl
-bad-unless k true Command.Open h = refl
-bad-unless k true Command.Order h = absurd (h refl refl)
-bad-unless k true Command.Turn h = refl
-bad-unless k true Command.Run h = refl
-bad-unless k true Command.Close h = refl
-bad-unless k true Command.List h = refl
-bad-unless k true Command.Unknown h = refl
-bad-unless k false Command.Cells h = refl
-bad-unless k false Command.Open h = refl
-bad-unless k false Command.Order h = refl
-bad-unless k false Command.Turn h = refl
-bad-unless k false Command.Run h = refl
-bad-unless k false Command.Close h = refl
-bad-unless k false Command.List h = refl
-bad-unless k false Command.Unknown h = refl
+bad-item : (c : ℕ) → handled (itemHandling c) false Command.Item ≡ reading.Bad
+bad-item c = tested (λ (h : Handling). handled h false Command.Item ≡ reading.Bad) (ltb c mostItems) (λ _. refl) (λ _. refl)
+
+bad-unless : (k c : ℕ) (shut : Bool) (d : Command) → (shut ≡ true → d ≢ Command.Order) → handled (handlingIn shut (rowOf k c d)) false d ≡ reading.Bad
+bad-unless k c true Command.Cells h = refl
+bad-unless k c true Command.Open h = refl
+bad-unless k c true Command.Item h = bad-item c
+bad-unless k c true Command.Order h = absurd (h refl refl)
+bad-unless k c true Command.Turn h = refl
+bad-unless k c true Command.Run h = refl
+bad-unless k c true Command.Close h = refl
+bad-unless k c true Command.List h = refl
+bad-unless k c true Command.Unknown h = refl
+bad-unless k c false Command.Cells h = refl
+bad-unless k c false Command.Open h = refl
+bad-unless k c false Command.Item h = refl
+bad-unless k c false Command.Order h = refl
+bad-unless k c false Command.Turn h = refl
+bad-unless k c false Command.Run h = refl
+bad-unless k c false Command.Close h = refl
+bad-unless k c false Command.List h = refl
+bad-unless k c false Command.Unknown h = refl
 
 -- the answer that leaves this state and prints this text
 abbrev answering : State → List ℕ → Answer
@@ -79,7 +87,7 @@ in-either-way false c = refl
 
 module _ (s : State) where
   abbrev asked : Line → Reading
-  asked x = readingIn (s .phase .kind) (s .phase .shut) x
+  asked x = readingIn (s .phase .kind) (length (s .items)) (s .phase .shut) x
 
   -- ---- the answer, by what a line asks for
   answer-as : (l : List ℕ) (r : Reading) → asked (readingOf l) ≡ r → answerOf s (readingOf l) ≡ answered s r (readingOf l .numbers .values)
@@ -104,9 +112,10 @@ module _ (s : State) where
   unreadable : (l : List ℕ) → Unreadable (s .phase .kind) l → (s .phase .shut ≡ true → FirstIs (bytesOf "order") l → ⊥) → Bad s l
   unreadable l u h =
       let k = s .phase .kind in
-      let c = readingOf l .command in
-      let misfit : fitsRow (rowOf k c) (readingOf l .numbers) ≡ false = by-test _ (λ f. absurd (unreadable-fits l k u f)) (λ f. f) in
-      is-bad l (rw misfit (bad-unless k (s .phase .shut) c (λ e q. h e (says-first l Command.Order refl q))))
+      let c = length (s .items) in
+      let d = readingOf l .command in
+      let misfit : fitsRow (rowOf k c d) (readingOf l .numbers) ≡ false = by-test _ (λ f. absurd (unreadable-fits l k c u f)) (λ f. f) in
+      is-bad l (rw misfit (bad-unless k c (s .phase .shut) d (λ e q. h e (says-first l Command.Order refl q))))
 
   -- ---- a shut phase
   module _ (shut : s .phase .shut ≡ true) where
@@ -124,7 +133,10 @@ module _ (s : State) where
       cells-refused = λ n range h. cells-by n range
           ∙ by-lt n 2 (λ fewer. rw (lt-ltb n 2 fewer)) (λ few. rw (le-ltb n 2 few, lt-ltb 4096 n (too-many n h few)));
       opening = λ k m a b. answer-written Command.Open (k ∷ m ∷ []) refl (omega arith) (a, (b, tt)) (Todo (Perform Command.Open)) (rw shut)
-          ∙ rw (reply-text (openCall gateway k m (s .table) .reply));
+          ∙ rw (reply-text (openCall gateway k m (s .table) (s .items) .reply));
+      item = λ w v cents a b d room. answer-written Command.Item (w ∷ v ∷ cents ∷ []) refl (omega arith) (a, (b, (d, tt))) (Todo (Perform Command.Item))
+          (rw (shut, lt-ltb (length (s .items)) 1024 room));
+      item-full = λ full l e. is-bad l (rw (shut, first-says l Command.Item refl e, le-ltb (length (s .items)) 1024 full));
       run = answer-written Command.Run [] refl (omega arith) tt (Todo Refuse) (rw shut);
       order = λ l e. is-refused l (rw (shut, first-says l Command.Order refl e));
       unreadable = λ l u h. unreadable l u (λ _. h);
@@ -141,33 +153,24 @@ module _ (s : State) where
         ap (λ (m : ℕ). finishFields (take m (ran .dealt .finishes))) (run-crew gateway (s .phase) (s .table))
         ∙ workers-text (ran .dealt .finishes) (s .phase .crew) (omega (arith, run-places gateway (s .phase) (s .table)))
 
-    -- outside put-in shifts the price of an order call is not read
-    unread-price : (w v a b : ℕ) → s .phase .kind ≢ 1 → orderCall gateway (s .phase) w v a ≡ orderCall gateway (s .phase) w v b
-    unread-price w v a b ne =
-        let p = s .phase in
-        let none : mispriced (p .kind) a ≡ mispriced (p .kind) b = rw (ne-eqb (p .kind) 1 ne) in
-        let replies : orderReply gateway p w v a ≡ orderReply gateway p w v b =
-        ap (λ (x : Bool). firstOf (phaseBars gateway p ++ numberBars gateway p w ++ unless (isIdle (doing p w)) Busy ∷ if (eqb v 0) Blank ∷ if x WrongPrice
-        ∷ if (usedUp (p .kind) (p .left)) Full ∷ [])) none in
-        ap (ordered gateway p w v a) replies ∙ same-ordered (orderReply gateway p w v b)
-      where
-        same-ordered : (r : Reply) → ordered gateway (s .phase) w v a r ≡ ordered gateway (s .phase) w v b r
-        same-ordered Accepted = rw (ne-eqb (s .phase .kind) 1 ne)
-        same-ordered (Refused r) = refl
+    -- the answer of an order call
+    abbrev given : Replied → Answer
+    given r = answering (stateWith (r .phase) (s .table) (s .items)) (replyFields (r .reply))
 
     -- an order with another number of fields than its shift's kind takes
     misfit : (ns : List ℕ) → length ns ≢ orderNumbers (s .phase .kind) → Bad s (line "order" ns)
     misfit ns many =
         let k = s .phase .kind in
+        let n = length (s .items) in
         let l = line "order" ns in
         let c : readingOf l .command ≡ Command.Order = first-says l Command.Order refl (order-first ns) in
-        let no : fitsRow (rowOf k Command.Order) (readingOf l .numbers) ≡ false = by-test _
+        let no : fitsRow (rowOf k n Command.Order) (readingOf l .numbers) ≡ false = by-test _
         (λ f.
-        let (_, w) = fits-form l k (rw c f) in
+        let (_, w) = fits-form l k n (rw c f) in
         let fields : wordOf Command.Order ∷ map digitsOf ns ≡ wordOf (readingOf l .command) ∷ map digitsOf (w .numbers) =
         sym (fields-written Command.Order ns) ∙ ap fieldsOf (w .text) ∙ fields-written (readingOf l .command) (w .numbers) in
         let long : length (map digitsOf ns) ≡ length (map digitsOf (w .numbers)) = omega (arith, ap length fields) in
-        absurd (many (sym (length-map ns digitsOf) ∙ long ∙ length-map (w .numbers) digitsOf ∙ w .count ∙ ap (λ (d : Command). rowOf k d .takes) c)))
+        absurd (many (sym (length-map ns digitsOf) ∙ long ∙ length-map (w .numbers) digitsOf ∙ w .count ∙ ap (λ (d : Command). rowOf k n d .takes) c)))
         (λ f. f) in
         is-bad l (rw (up, c, no))
 
@@ -176,17 +179,19 @@ module _ (s : State) where
     in-open = record {
       cells = λ l e. is-bad l (rw (up, first-says l Command.Cells refl e));
       opening = λ l e. is-bad l (rw (up, first-says l Command.Open refl e));
-      order-priced = λ is w v cents a b d.
-          answer-written Command.Order (w ∷ v ∷ cents ∷ []) refl (omega arith) (a, (b, (d, tt))) (Todo (Perform Command.Order)) (rw (up, eq-eqb (s .phase .kind) 1 is))
-          ∙ rw (reply-text (orderCall gateway (s .phase) w v cents .reply));
-      order = λ ne w v cents a b.
+      item = λ l e. is-bad l (rw (up, first-says l Command.Item refl e));
+      order-placed = λ is i a w v.
+          answer-written Command.Order (i ∷ []) refl (omega arith) (a, tt) (Todo (Perform Command.Order)) (rw (up, eq-eqb (s .phase .kind) 1 is))
+          ∙ ap given (orders gateway (s .phase) (s .items) i w v .insert-unread is i 0)
+          ∙ rw (reply-text (orderCall gateway (s .phase) (s .items) i w v .reply));
+      order = λ ne w v a b os i.
           answer-written Command.Order (w ∷ v ∷ []) refl (omega arith) (a, (b, tt)) (Todo (Perform Command.Order)) (rw (up, ne-eqb (s .phase .kind) 1 ne))
-          ∙ ap (λ (r : Replied). answering (stateWith (r .phase) (s .table)) (replyFields (r .reply))) (unread-price w v 0 cents ne)
-          ∙ rw (reply-text (orderCall gateway (s .phase) w v cents .reply));
+          ∙ ap given (orders gateway (s .phase) os i w v .other-unread ne (s .items) w)
+          ∙ rw (reply-text (orderCall gateway (s .phase) os i w v .reply));
       order-misfit = λ is ns many. misfit ns (rw (eq-eqb (s .phase .kind) 1 is) many);
       order-other-misfit = λ ne ns many. misfit ns (rw (ne-eqb (s .phase .kind) 1 ne) many);
       run = λ few. answer-written Command.Run [] refl (omega arith) tt (Todo (Perform Command.Run)) (rw up)
-          ∙ ap (answering (stateWith (ran .dealt .phase) (ran .table))) (run-text few);
+          ∙ ap (answering (stateWith (ran .dealt .phase) (ran .table) (s .items))) (run-text few);
       unreadable = λ l u. unreadable l u (λ e. absurd (not-both (s .phase .shut) e up));
     }
 
@@ -204,15 +209,66 @@ module _ (s : State) where
   listed-as a e = answer-written Command.List [] refl (omega arith) tt (Todo (Perform Command.List)) (in-either-way (s .phase .shut) Command.List)
       ∙ ap (λ (a : Counted). answering s (toldFields (listTold a) (s .phase .crew) noFinishes (s .table))) e
 
+  -- ---- the items
+  -- what a close leaves beside these items
+  abbrev left : List Order → Replied → Answer
+  left os r = answering (stateWith (r .phase) (s .table) os) (replyFields (r .reply))
+
+  closed : answerOf s (readingOf (line "close" []))
+      ≡ left (itemsAfter (s .phase .kind) (closeCall gateway (s .phase) .reply) (s .items)) (closeCall gateway (s .phase))
+  closed = answer-written Command.Close [] refl (omega arith) tt (Todo (Perform Command.Close)) (in-either-way (s .phase .shut) Command.Close)
+
+  refused-phase : (r : Refusal) → closeCall gateway (s .phase) .reply ≡ Refused r → closeCall gateway (s .phase) .phase ≡ s .phase
+  refused-phase r e = by-reply (closeReply gateway (s .phase))
+      (λ z. let no : Accepted ≡ Refused r = sym (ap (λ (a : Reply). protocol.closed gateway (s .phase) a .reply) z) ∙ e in
+      absurd (let y : _≡_ {A = ℕ} 0 1 = cc in omega arith))
+      (λ q z. ap (λ (a : Reply). protocol.closed gateway (s .phase) a .phase) z)
+
+  kept-items : (a : Reply) → s .phase .kind ≢ 1 → itemsAfter (s .phase .kind) a (s .items) ≡ s .items
+  kept-items Accepted ne = rw (ne-eqb (s .phase .kind) 1 ne)
+  kept-items (Refused r) ne = refl
+
+  cells-items : (n : ℕ) → cellsTask s n .state .items ≡ s .items
+  cells-items n = tested (λ (d : Step). d .state .items ≡ s .items) (ltb n 2) (λ _. refl)
+      (λ _. tested (λ (d : Step). d .state .items ≡ s .items) (ltb mostSheetCells n) (λ _. refl) (λ _. refl))
+
+  task-items : (d : Command) (ns : List ℕ) → d ≢ Command.Item → d ≢ Command.Close → commanded s d ns .state .items ≡ s .items
+  task-items Command.Cells ns item close = cells-items (getD ns 0 0)
+  task-items Command.Open ns item close = refl
+  task-items Command.Item ns item close = absurd (item refl)
+  task-items Command.Order ns item close = refl
+  task-items Command.Turn ns item close = refl
+  task-items Command.Run ns item close = refl
+  task-items Command.Close ns item close = absurd (close refl)
+  task-items Command.List ns item close = refl
+  task-items Command.Unknown ns item close = refl
+
+  keeps-items : (l : List ℕ) → (FirstIs (bytesOf "item") l → ⊥) → (FirstIs (bytesOf "close") l → ⊥) → answerOf s (readingOf l) .state .items ≡ s .items
+  unfolding answerOf
+  keeps-items l item close = by-reading (asked (readingOf l)) refl
+    where
+      by-reading : (r : Reading) → asked (readingOf l) ≡ r → answered s r (readingOf l .numbers .values) .state .items ≡ s .items
+      by-reading (Todo (Perform d)) e =
+          let x = readingOf l in
+          let row = rowOf (s .phase .kind) (length (s .items)) (x .command) in
+          let is : x .command ≡ d = handled-performed (handlingIn (s .phase .shut) row) (fitsRow row (x .numbers)) (x .command) d e .1 in
+          task-items d (readingOf l .numbers .values)
+          (λ z. item (says-first l Command.Item refl (is ∙ z)))
+          (λ z. close (says-first l Command.Close refl (is ∙ z)))
+      by-reading (Todo Refuse) e = refl
+      by-reading reading.Bad e = refl
+
   pub in-either : InEither s
   unfolding bytesOf
   in-either = record {
     turn = λ w a.
         answer-written Command.Turn (w ∷ []) refl (omega arith) (a, tt) (Todo (Perform Command.Turn)) (in-either-way (s .phase .shut) Command.Turn)
         ∙ rw (turn-text (turnCall gateway (s .phase) (s .table) w .reply));
-    close =
-        answer-written Command.Close [] refl (omega arith) tt (Todo (Perform Command.Close)) (in-either-way (s .phase .shut) Command.Close)
+    close = λ ne. closed ∙ ap (λ (os : List Order). left os (closeCall gateway (s .phase))) (kept-items (closeCall gateway (s .phase) .reply) ne)
         ∙ rw (reply-text (closeCall gateway (s .phase) .reply));
+    close-refused = λ r e. closed ∙ rw (e, refused-phase r e);
+    close-clears = λ is e. closed ∙ rw (e, eq-eqb (s .phase .kind) 1 is);
     list = λ e. listed-as (counted.Keys (length (entriesOf (s .table)))) (all-listed e) ∙ ap (answering s) (list-text (entriesOf (s .table)));
     list-refused = λ r e. listed-as (counted.Refused r) (list-by gateway (s .table) (s .table) (Refused r) e);
+    keeps-items = keeps-items;
   }

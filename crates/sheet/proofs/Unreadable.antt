@@ -45,17 +45,20 @@ number-among (n ∷ ns) [] f gs r e = (n, r .0, cc)
 number-among (n ∷ ns) (g ∷ fs) f gs r e = number-among ns fs f gs (r .1) (cc)
 
 -- what stands behind a tab begins with a number in range
-behind-tab : (k : ℕ) (c : Command) (front l : List ℕ) → WrittenIn (formOf k c) (front ++ 9 ∷ l) → (n : ℕ) × (n ≤ greatest) × (digitsOf n ≡ firstField l)
-behind-tab k c front l w =
+behind-tab : (k : ℕ) (d : Command) (front l : List ℕ) → WrittenIn (formOf k 0 d) (front ++ 9 ∷ l) → (n : ℕ) × (n ≤ greatest) × (digitsOf n ≡ firstField l)
+behind-tab k d front l w =
     let fs = first-field front .0 in
     let gs = first-field l .0 in
-    let e : wordOf c ∷ map digitsOf (w .numbers) ≡ firstField front ∷ (fs ++ firstField l ∷ gs) =
-    sym (fields-written c (w .numbers)) ∙ ap fieldsOf (sym (w .text)) ∙ fields-tab front l ∙ rw (first-field front .1, first-field l .1) in
+    let e : wordOf d ∷ map digitsOf (w .numbers) ≡ firstField front ∷ (fs ++ firstField l ∷ gs) =
+    sym (fields-written d (w .numbers)) ∙ ap fieldsOf (sym (w .text)) ∙ fields-tab front l ∙ rw (first-field front .1, first-field l .1) in
     number-among (w .numbers) fs (firstField l) gs (w .range) (cc)
 
 -- ---- in no command's form, in none
-in-none : (k : ℕ) (l : List ℕ) → ((c : Command) → WrittenIn (formOf k c) l → ⊥) → Unreadable k l
-in-none k l h = (h Command.Cells, (h Command.Open, (h Command.Order, (h Command.Turn, (h Command.Run, (h Command.Close, (h Command.List, tt)))))))
+in-none : (k : ℕ) (l : List ℕ) → ((d : Command) → WrittenIn (formOf k 0 d) l → ⊥) → Unreadable k l
+in-none k l h = (
+  h Command.Cells,
+  (h Command.Open, (h Command.Item, (h Command.Order, (h Command.Turn, (h Command.Run, (h Command.Close, (h Command.List, tt))))))),
+)
 
 no-leading-zero : (n b : ℕ) (ds : List ℕ) → digitsOf n ≡ 48 ∷ b ∷ ds → ⊥
 no-leading-zero zero b ds e = let l = ap length (sym (text-promise .zero-digit) ∙ e) in omega arith
@@ -64,14 +67,14 @@ no-leading-zero (suc n) b ds e = omega (arith, text-promise .digits (suc n) .no-
 pub leading-zero : (front rest : List ℕ) (k b : ℕ) → b ≢ 9 → Unreadable k (front ++ (bytesOf "\t0" ++ b ∷ rest))
 unfolding bytesOf
 leading-zero front rest k b h = in-none k (front ++ 9 ∷ 48 ∷ b ∷ rest)
-    (λ c w.
-    let (n, _, e) = behind-tab k c front (48 ∷ b ∷ rest) w in
+    (λ d w.
+    let (n, _, e) = behind-tab k d front (48 ∷ b ∷ rest) w in
     no-leading-zero n b (firstField rest) (e ∙ first-later 48 (b ∷ rest) refl ∙ rw (first-later b rest (ne-eqb b 9 h))))
 
 pub above : (front rest : List ℕ) (k n : ℕ) → greatest < n → FirstIs (digitsOf n) rest → Unreadable k (front ++ (bytesOf "\t" ++ rest))
 unfolding bytesOf
 above front rest k n h is = in-none k (front ++ 9 ∷ rest)
-    (λ c w.
-    let (m, few, e) = behind-tab k c front rest w in
+    (λ d w.
+    let (m, few, e) = behind-tab k d front rest w in
     let same : digitsOf m ≡ digitsOf n = e ∙ first-is (digitsOf n) rest (tabless-digits n) is in
     omega (arith, text-promise .digits m .value, text-promise .digits n .value, ap valueOf same))

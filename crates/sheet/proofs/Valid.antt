@@ -1,12 +1,14 @@
 -- Lines lead from valid states to valid states.
 use mathlib.Core.Path.{_≡_, refl, sym, _∙_, ap}
 use mathlib.Core.Bool.{Bool, true, false}
-use mathlib.Core.List.{List, []}
-use Prim.Native.Nat.{ℕ}
+use mathlib.Core.List.{List, [], _∷_}
+use Prim.Native.Nat.{ℕ, _≤_, _<_}
 use native.Mathlib.Omega.{arith}
-use lib.Dec.{ltb}
-use lib.ListN.{getD, length-replicate}
-use borrow.Author.Tests.{ltb-false}
+use lib.Dec.{ltb, eqb}
+use lib.ListN.{length, getD, length-append, length-replicate}
+use borrow.Author.Tests.{ltb-false, le-ltb}
+use Rattle.orders.specs.Orders.{orderWith, lineAt}
+use Rattle.orders.specs.declared.Order.{Order}
 use Rattle.history.specs.History as history
 use Rattle.protocol.proofs.Chain.{by-reply}
 use Rattle.ring.proofs.Tests.{tested}
@@ -18,21 +20,22 @@ use Rattle.state.specs.declared.Phase.{Phase}
 use Rattle.state.specs.declared.Reply.{Reply}
 use Rattle.state.specs.declared.Reply.the-variants as reply
 use Rattle.protocol.specs.Calls as call
-use Rattle.protocol.specs.Calls.{closeCall, orderCall}
-use Rattle.text.proofs.Test.{by-test}
+use Rattle.protocol.specs.Calls.{orderCall}
+use Rattle.text.proofs.Test.{by-test, by-lt}
 use Rattle.lines.specs.declared.Command.{Command}
 use Rattle.lines.specs.declared.Line.{Line}
 use Rattle.dealing.specs.Reached.{Reached}
 use Rattle.dealing.specs.Deal.{run}
-use Rattle.dealing.proofs.Reached.{order-from, turn-from, close-from}
+use Rattle.dealing.proofs.Reached.{order-from, turn-from}
 use Rattle.dealing.proofs.Settling.{turn-shut, turn-length, run-reached, run-length}
 use Rattle.fitting.specs.declared.Reading.{Reading}
 use Rattle.fitting.specs.declared.Reading.the-variants.{Todo}
 use Rattle.fitting.specs.declared.Handling.the-variants.{Performed, Refused, Bad}
 use Rattle.fitting.specs.declared.Task.{Task}
 use Rattle.fitting.specs.declared.Task.the-variants.{Perform, Refuse}
-use Rattle.fitting.specs.Fitting.{rowOf, handlingIn, readingIn}
-use Rattle.sheet.specs.Replay.{State, Step, calls, cellsTask, turnTask, runTask, commanded, answered, answerOf, blank, mostSheetCells}
+use Rattle.fitting.specs.Fitting.{mostItems, rowOf, handlingIn, readingIn}
+use Rattle.sheet.specs.Replay.{State, Step, calls, cellsTask, itemTask, turnTask, runTask, itemsAfter}
+use Rattle.sheet.specs.Replay.{closeTask, commanded, answered, answerOf, blank, mostSheetCells}
 use Rattle.sheet.specs.Valid.{Valid, RunFinds}
 use Rattle.fitting.proofs.Fitting.{performs}
 
@@ -41,25 +44,22 @@ never : {C : Type 0} (b : Bool) → b ≡ true → b ≡ false → C
 never b e f = absurd (let z : _≡_ {A = ℕ} 0 1 = cc in omega arith)
 
 pub blank-valid : Valid blank
-blank-valid = record { few = omega arith; reached = λ f. never true refl f }
+blank-valid = record { few = omega arith; items = omega arith; reached = λ f. never true refl f }
 
 -- ---- openings
-opened-reached : (k m : ℕ) (t : List ℕ) (a : Reply) → openReply gateway k m t ≡ a
-    → opening.opened gateway k m t a .phase .shut ≡ false → Reached gateway (opening.opened gateway k m t a .phase) t
-opened-reached k m t reply.Accepted e f =
+opened-reached : (k m : ℕ) (t : List ℕ) (os : List Order) (a : Reply) → openReply gateway k m t os ≡ a
+    → opening.opened gateway k m t a .phase .shut ≡ false → Reached gateway os (opening.opened gateway k m t a .phase) t
+opened-reached k m t os reply.Accepted e f =
     record { kind = k; crew = m; opened = t; by = record { calls = []; accepted = e; phase = unfold history.run in (rw e); table = unfold history.run in refl } }
-opened-reached k m t (reply.Refused r) e f = never true refl f
+opened-reached k m t os (reply.Refused r) e f = never true refl f
 
--- ---- orders and closes leave a shut phase shut
-order-shut : (p : Phase) (w v cents : ℕ) → orderCall gateway p w v cents .phase .shut ≡ p .shut
-order-shut p w v cents =
-    let shut : Reply → Bool = λ a. call.ordered gateway p w v cents a .phase .shut in
-    by-reply (call.orderReply gateway p w v cents) (λ e. ap shut e) (λ _ e. ap shut e)
-
-close-shut : (p : Phase) → closeCall gateway p .phase .shut ≡ false → p .shut ≡ false
-close-shut p f =
-    let shut : Reply → Bool = λ a. call.closed gateway p a .phase .shut in
-    by-reply (call.closeReply gateway p) (λ e. never (shut (call.closeReply gateway p)) (ap shut e) f) (λ _ e. sym (ap shut e) ∙ f)
+-- ---- orders leave a shut phase shut
+order-shut : (p : Phase) (os : List Order) (i w v : ℕ) → orderCall gateway p os i w v .phase .shut ≡ p .shut
+order-shut p os i w v =
+    let l = lineAt os i in
+    let o = call.asked (p .kind) l w v in
+    let shut : Reply → Bool = λ a. call.ordered gateway p (call.missing (p .kind) l) (o .worker) (o .key) (o .price) a .phase .shut in
+    by-reply (call.foundReply gateway p l w v) (λ e. ap shut e) (λ _ e. ap shut e)
 
 module _ (s : State) (v : Valid s) where
   cells-kept : (n : ℕ) → s .phase .shut ≡ true → Valid (cellsTask s n .state)
@@ -67,47 +67,86 @@ module _ (s : State) (v : Valid s) where
       (λ _. v)
       (λ _. tested (λ (d : Step). Valid (d .state)) (ltb mostSheetCells n)
       (λ _. v)
-      (λ l. record { few = omega (arith, ltb-false mostSheetCells n l, length-replicate {A = ℕ} n 0); reached = λ f. never (s .phase .shut) e f }))
+      (λ l. record {
+        few = omega (arith, ltb-false mostSheetCells n l, length-replicate {A = ℕ} n 0);
+        items = v .items;
+        reached = λ f. never (s .phase .shut) e f;
+      }))
 
-  open-kept : (k m : ℕ) → Valid (calls (s .table) (openCall gateway k m (s .table)) .state)
-  open-kept k m = record { few = v .few; reached = opened-reached k m (s .table) (openReply gateway k m (s .table)) refl }
-
-  order-kept : (w x cents : ℕ) → Valid (calls (s .table) (orderCall gateway (s .phase) w x cents) .state)
-  order-kept w x cents = record {
+  open-kept : (k m : ℕ) → Valid (calls (s .table) (s .items) (openCall gateway k m (s .table) (s .items)) .state)
+  open-kept k m = record {
     few = v .few;
-    reached = λ f. let h = v .reached (sym (order-shut (s .phase) w x cents) ∙ f) in
-        record { kind = h .kind; crew = h .crew; opened = h .opened; by = order-from gateway gateway-proper (h .kind) (h .crew) (h .opened) (s .phase) (s .table) (h .by) w x cents };
+    items = v .items;
+    reached = opened-reached k m (s .table) (s .items) (openReply gateway k m (s .table) (s .items)) refl;
+  }
+
+  item-kept : (w x cents : ℕ) → s .phase .shut ≡ true → length (s .items) < mostItems → Valid (itemTask s w x cents .state)
+  item-kept w x cents e room = record {
+    few = v .few;
+    items = omega (arith, length-append (s .items) (orderWith x cents w ∷ []));
+    reached = λ f. never (s .phase .shut) e f;
+  }
+
+  order-kept : (i w x : ℕ) → Valid (calls (s .table) (s .items) (orderCall gateway (s .phase) (s .items) i w x) .state)
+  order-kept i w x = record {
+    few = v .few;
+    items = v .items;
+    reached = λ f. let h = v .reached (sym (order-shut (s .phase) (s .items) i w x) ∙ f) in
+        record {
+          kind = h .kind;
+          crew = h .crew;
+          opened = h .opened;
+          by = order-from gateway gateway-proper (h .kind) (h .crew) (h .opened) (s .items) (s .phase) (s .table) (h .by) i w x;
+        };
   }
 
   turn-kept : (w : ℕ) → Valid (turnTask s w .state)
   turn-kept w = record {
     few = omega (arith, v .few, turn-length gateway gateway-proper (s .phase) (s .table) w);
+    items = v .items;
     reached = λ f. let h = v .reached (sym (turn-shut gateway gateway-proper (s .phase) (s .table) w) ∙ f) in
-        record { kind = h .kind; crew = h .crew; opened = h .opened; by = turn-from gateway gateway-proper (h .kind) (h .crew) (h .opened) (s .phase) (s .table) (h .by) w };
+        record {
+          kind = h .kind;
+          crew = h .crew;
+          opened = h .opened;
+          by = turn-from gateway gateway-proper (h .kind) (h .crew) (h .opened) (s .items) (s .phase) (s .table) (h .by) w;
+        };
   }
 
   run-kept : s .phase .shut ≡ false → Valid (runTask s .state)
   run-kept up = record {
     few = omega (arith, v .few, run-length gateway gateway-proper (s .phase) (s .table));
-    reached = λ _. run-reached gateway gateway-proper (s .phase) (s .table) (v .reached up) up;
+    items = v .items;
+    reached = λ _. run-reached gateway gateway-proper (s .items) (s .phase) (s .table) (v .reached up) up;
   }
 
-  close-kept : Valid (calls (s .table) (closeCall gateway (s .phase)) .state)
-  close-kept = record {
+  -- an accepted close leaves a shut phase, whatever items; a refused one leaves all as it was
+  closed-kept : (a : Reply) → Valid (calls (s .table) (itemsAfter (s .phase .kind) a (s .items)) (call.closed gateway (s .phase) a) .state)
+  closed-kept reply.Accepted = record {
     few = v .few;
-    reached = λ f. let h = v .reached (close-shut (s .phase) f) in
-        record { kind = h .kind; crew = h .crew; opened = h .opened; by = close-from gateway gateway-proper (h .kind) (h .crew) (h .opened) (s .phase) (s .table) (h .by) };
+    items = tested (λ (os : List Order). length os ≤ mostItems) (eqb (s .phase .kind) 1) (λ _. omega arith) (λ _. v .items);
+    reached = λ f. never true refl f;
   }
+  closed-kept (reply.Refused r) = v
 
-  -- ---- every command, where it is carried out: `cells` in a shut phase only, and `run` in an open one only
+  close-kept : Valid (closeTask s .state)
+  close-kept = by-reply (call.closeReply gateway (s .phase)) (λ e. rw e (closed-kept reply.Accepted)) (λ r e. rw e (closed-kept (reply.Refused r)))
+
+  -- ---- every command, where it is carried out: `cells` and `item` in a shut phase only, and `run` in an open one only
   abbrev Allowed : Command → Type 0
-  Allowed c = handlingIn (s .phase .shut) (rowOf (s .phase .kind) c) ≡ Performed
+  Allowed c = handlingIn (s .phase .shut) (rowOf (s .phase .kind) (length (s .items)) c) ≡ Performed
+
+  not-bad : {C : Type 0} → Bad ≡ Performed → C
+  not-bad q = absurd (let z : _≡_ {A = ℕ} 0 1 = cc in omega arith)
 
   cells-shut : Allowed Command.Cells → s .phase .shut ≡ true
-  cells-shut h = by-test (s .phase .shut) (λ e. e) (λ e. not-performed (rw e at h))
-    where
-      not-performed : Bad ≡ Performed → s .phase .shut ≡ true
-      not-performed q = absurd (let z : _≡_ {A = ℕ} 0 1 = cc in omega arith)
+  cells-shut h = by-test (s .phase .shut) (λ e. e) (λ e. not-bad (rw e at h))
+
+  item-shut : Allowed Command.Item → s .phase .shut ≡ true
+  item-shut h = by-test (s .phase .shut) (λ e. e) (λ e. not-bad (rw e at h))
+
+  item-room : Allowed Command.Item → length (s .items) < mostItems
+  item-room h = by-lt (length (s .items)) mostItems (λ l. l) (λ l. not-bad (rw (item-shut h, le-ltb (length (s .items)) mostItems l) at h))
 
   run-open : Allowed Command.Run → s .phase .shut ≡ false
   run-open h = by-test (s .phase .shut) (λ e. not-performed (rw e at h)) (λ e. e)
@@ -118,7 +157,8 @@ module _ (s : State) (v : Valid s) where
   command-kept : (c : Command) (ns : List ℕ) → Allowed c → Valid (commanded s c ns .state)
   command-kept Command.Cells ns h = cells-kept (getD ns 0 0) (cells-shut h)
   command-kept Command.Open ns h = open-kept (getD ns 0 0) (getD ns 1 0)
-  command-kept Command.Order ns h = order-kept (getD ns 0 0) (getD ns 1 0) (getD ns 2 0)
+  command-kept Command.Item ns h = item-kept (getD ns 0 0) (getD ns 1 0) (getD ns 2 0) (item-shut h) (item-room h)
+  command-kept Command.Order ns h = order-kept (getD ns 0 0) (getD ns 0 0) (getD ns 1 0)
   command-kept Command.Turn ns h = turn-kept (getD ns 0 0)
   command-kept Command.Run ns h = run-kept (run-open h)
   command-kept Command.Close ns h = close-kept
@@ -127,17 +167,17 @@ module _ (s : State) (v : Valid s) where
 
   -- ---- every line
   module _ (l : Line) where
-    reading-kept : (r : Reading) → readingIn (s .phase .kind) (s .phase .shut) l ≡ r → Valid (answered s r (l .numbers .values) .state)
-    reading-kept (Todo (Perform c)) e = command-kept c (l .numbers .values) (performs (s .phase .kind) (s .phase .shut) l c e)
+    reading-kept : (r : Reading) → readingIn (s .phase .kind) (length (s .items)) (s .phase .shut) l ≡ r → Valid (answered s r (l .numbers .values) .state)
+    reading-kept (Todo (Perform c)) e = command-kept c (l .numbers .values) (performs (s .phase .kind) (length (s .items)) (s .phase .shut) l c e)
     reading-kept (Todo Refuse) e = v
     reading-kept Reading.Bad e = v
 
     pub valid-kept : Valid (answerOf s l .state)
     unfolding answerOf
-    valid-kept = reading-kept (readingIn (s .phase .kind) (s .phase .shut) l) refl
+    valid-kept = reading-kept (readingIn (s .phase .kind) (length (s .items)) (s .phase .shut) l) refl
 
     -- a run is asked for in an open phase only
-    pub allowed : (t : Task) → readingIn (s .phase .kind) (s .phase .shut) l ≡ Todo t → RunFinds s t
+    pub allowed : (t : Task) → readingIn (s .phase .kind) (length (s .items)) (s .phase .shut) l ≡ Todo t → RunFinds s t
     allowed t e q =
-        let up = run-open (performs (s .phase .kind) (s .phase .shut) l Command.Run (e ∙ ap (λ (x : Task). Todo x) q)) in
+        let up = run-open (performs (s .phase .kind) (length (s .items)) (s .phase .shut) l Command.Run (e ∙ ap (λ (x : Task). Todo x) q)) in
         (v .reached up, up)

@@ -27,10 +27,11 @@ use Rattle.lines.proofs.Words.{not-unknown, tabless-word}
 use Rattle.fitting.specs.Fitting.{rowOf, fitsRow}
 use Rattle.sheet.specs.Promise.{line, greatest, InRange, Form, form, numbersText, FirstIs, WrittenIn, Unreadable}
 
--- ---- the form of a command in a shift of kind k
+-- ---- the form of a command in a shift of kind k, whatever number c of items is kept
 abbrev pub nameOf : Command → String
 nameOf Command.Cells = "cells"
 nameOf Command.Open = "open"
+nameOf Command.Item = "item"
 nameOf Command.Order = "order"
 nameOf Command.Turn = "turn"
 nameOf Command.Run = "run"
@@ -38,13 +39,14 @@ nameOf Command.Close = "close"
 nameOf Command.List = "list"
 nameOf Command.Unknown = ""
 
-abbrev pub formOf : ℕ → Command → Form
-formOf k c = form (nameOf c) (rowOf k c .takes)
+abbrev pub formOf : (k c : ℕ) → Command → Form
+formOf k c d = form (nameOf d) (rowOf k c d .takes)
 
 pub same-word : (c : Command) → bytesOf (nameOf c) ≡ wordOf c
 unfolding bytesOf
 same-word Command.Cells = refl
 same-word Command.Open = refl
+same-word Command.Item = refl
 same-word Command.Order = refl
 same-word Command.Turn = refl
 same-word Command.Run = refl
@@ -53,15 +55,16 @@ same-word Command.List = refl
 same-word Command.Unknown = refl
 
 -- an unreadable line is not in it
-no-form : (k : ℕ) (c : Command) (l : List ℕ) → known c ≡ true → Unreadable k l → WrittenIn (formOf k c) l → ⊥
-no-form k Command.Cells l is u = u .0
-no-form k Command.Open l is u = u .1 .0
-no-form k Command.Order l is u = u .1 .1 .0
-no-form k Command.Turn l is u = u .1 .1 .1 .0
-no-form k Command.Run l is u = u .1 .1 .1 .1 .0
-no-form k Command.Close l is u = u .1 .1 .1 .1 .1 .0
-no-form k Command.List l is u = u .1 .1 .1 .1 .1 .1 .0
-no-form k Command.Unknown l is u = absurd (not-unknown is refl)
+no-form : (k c : ℕ) (d : Command) (l : List ℕ) → known d ≡ true → Unreadable k l → WrittenIn (formOf k c d) l → ⊥
+no-form k c Command.Cells l is u = u .0
+no-form k c Command.Open l is u = u .1 .0
+no-form k c Command.Item l is u = u .1 .1 .0
+no-form k c Command.Order l is u = u .1 .1 .1 .0
+no-form k c Command.Turn l is u = u .1 .1 .1 .1 .0
+no-form k c Command.Run l is u = u .1 .1 .1 .1 .1 .0
+no-form k c Command.Close l is u = u .1 .1 .1 .1 .1 .1 .0
+no-form k c Command.List l is u = u .1 .1 .1 .1 .1 .1 .1 .0
+no-form k c Command.Unknown l is u = absurd (not-unknown is refl)
 
 -- ---- what is read of a line in a form
 pub line-joined : (word : List ℕ) (ns : List ℕ) → word ++ numbersText ns ≡ joined (word ∷ map digitsOf ns)
@@ -93,11 +96,12 @@ module _ (l : List ℕ) where
   abbrev read : Line
   read = readingOf l
 
-  pub fits-form : (k : ℕ) → fitsRow (rowOf k (read .command)) (read .numbers) ≡ true → (known (read .command) ≡ true) × WrittenIn (formOf k (read .command)) l
-  fits-form k f =
-      let (is, many) = both-true (read .numbers .readable) (eqb (read .numbers .count) (rowOf k (read .command) .takes)) f in
+  pub fits-form : (k c : ℕ) → fitsRow (rowOf k c (read .command)) (read .numbers) ≡ true
+      → (known (read .command) ≡ true) × WrittenIn (formOf k c (read .command)) l
+  fits-form k c f =
+      let (is, many) = both-true (read .numbers .readable) (eqb (read .numbers .count) (rowOf k c (read .command) .takes)) f in
       let readable : Readable read = lines-promise .reading l .readable is in
-      let count : read .numbers .count ≡ rowOf k (read .command) .takes = eqb-true _ _ many in (
+      let count : read .numbers .count ≡ rowOf k c (read .command) .takes = eqb-true _ _ many in (
         readable .command,
         record {
           numbers = numbersIn read;
@@ -107,8 +111,8 @@ module _ (l : List ℕ) where
         },
       )
 
-  pub unreadable-fits : (k : ℕ) → Unreadable k l → fitsRow (rowOf k (read .command)) (read .numbers) ≡ true → ⊥
-  unreadable-fits k u f = let (is, written) = fits-form k f in no-form k (read .command) l is u written
+  pub unreadable-fits : (k c : ℕ) → Unreadable k l → fitsRow (rowOf k c (read .command)) (read .numbers) ≡ true → ⊥
+  unreadable-fits k c u f = let (is, written) = fits-form k c f in no-form k c (read .command) l is u written
 
 -- ---- the first field says the command
 -- a word without a tab is cut off at the tab behind it

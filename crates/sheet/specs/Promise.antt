@@ -1,5 +1,5 @@
 -- What is promised of each line of a shift sheet: from its bytes to the state behind it and the bytes printed behind its number, in document 01's words
--- ("The shift sheet"). Proved in proofs/Theorem.
+-- ("The shift sheet") and in those of document 02, point 2 (`item`, `order`). Proved in proofs/Theorem.
 use mathlib.Core.Path.{_≡_}
 use mathlib.Core.Logic.{_≢_, _⊎_}
 use mathlib.Core.Bool.{true, false, cond}
@@ -9,6 +9,7 @@ use Prim.Native.String.{String}
 use lib.Dec.{eqb}
 use lib.ListN.{length, getD, replicate}
 use Rattle.prices.specs.Contents.{label, price}
+use Rattle.orders.specs.declared.Order.{Order}
 use Rattle.words.specs.Words.{entriesOf}
 use Rattle.rule.specs.declared.Answer.{Answer}
 use Rattle.rule.specs.declared.Answer.the-variants as answer
@@ -17,7 +18,7 @@ use Rattle.state.specs.Open.{openCall}
 use Rattle.state.specs.Refusals.{numberOf}
 use Rattle.state.specs.declared.Phase.{Phase}
 use Rattle.state.specs.declared.Refusal.{Refusal}
-use Rattle.state.specs.declared.Refusal.the-variants.{Shut}
+use Rattle.state.specs.declared.Refusal.the-variants.{Shut, LongList}
 use Rattle.state.specs.declared.Replied.{Replied}
 use Rattle.state.specs.declared.Reply.{Reply}
 use Rattle.state.specs.declared.Reply.the-variants.{Accepted, Refused}
@@ -66,10 +67,18 @@ pub record Form : Type 0 where
 abbrev pub form : String → ℕ → Form
 form word count = record { word = word; count = count }
 
--- in a shift of kind k: an order has a price in a put-in shift alone
+-- in a shift of kind k: an order has one number in a put-in shift, and else two
 abbrev pub forms : ℕ → List Form
 forms k =
-    form "cells" 1 ∷ form "open" 2 ∷ form "order" (cond (eqb k 1) 3 2) ∷ form "turn" 1 ∷ form "run" 0 ∷ form "close" 0 ∷ form "list" 0 ∷ []
+    form "cells" 1
+    ∷ form "open" 2
+    ∷ form "item" 3
+    ∷ form "order" (cond (eqb k 1) 1 2)
+    ∷ form "turn" 1
+    ∷ form "run" 0
+    ∷ form "close" 0
+    ∷ form "list" 0
+    ∷ []
 
 -- a line that is written in a form
 pub record WrittenIn (f : Form) (l : List ℕ) : Type 0 where
@@ -129,16 +138,16 @@ abbrev pub listText : List ℕ → List ℕ
 listText es = numbersText (length es ∷ []) ++ pricedText es
 
 -- ---- what a line does
-abbrev pub stateWith : Phase → List ℕ → State
-stateWith p t = record { phase = p; table = t }
+abbrev pub stateWith : Phase → List ℕ → List Order → State
+stateWith p t items = record { phase = p; table = t; items = items }
 
 -- in state s the line leaves s′ and prints the text and a newline; the replay goes on
 abbrev pub Does : State → List ℕ → State → List ℕ → Type 0
 Does s l s′ text = answerOf s (readingOf l) ≡ record { state = s′; printed = text ++ bytesOf "\n"; ended = false }
 
--- it does what a call on the shift record does, and prints the call's answer; the table is kept
+-- it does what a call on the shift record does, and prints the call's answer; the table and the items are kept
 abbrev pub Replies : State → List ℕ → Replied → Type 0
-Replies s l r = Does s l (stateWith (r .phase) (s .table)) (replyText (r .reply))
+Replies s l r = Does s l (stateWith (r .phase) (s .table) (s .items)) (replyText (r .reply))
 
 -- it answers `bad` and ends the replay; nothing changes
 abbrev pub Bad : State → List ℕ → Type 0
@@ -146,12 +155,18 @@ Bad s l = answerOf s (readingOf l) ≡ record { state = s; printed = bytesOf "\t
 
 -- ---- in a shut shift
 pub record InShut (s : State) : Type 0 where
-  -- `cells` and a length: 2 to 4,096 here, a fresh empty table
-  pub cells : (n : ℕ) → 2 ≤ n → n ≤ 4096 → Does s (line "cells" (n ∷ [])) (stateWith (s .phase) (replicate n 0)) (bytesOf "\tok")
+  -- `cells` and a length: 2 to 4,096 here, a fresh empty table; the items are kept
+  pub cells : (n : ℕ) → 2 ≤ n → n ≤ 4096 → Does s (line "cells" (n ∷ [])) (stateWith (s .phase) (replicate n 0) (s .items)) (bytesOf "\tok")
   -- else refusal 1 with the old table kept
   pub cells-refused : (n : ℕ) → n ≤ greatest → ((2 ≤ n) × (n ≤ 4096) → ⊥) → Does s (line "cells" (n ∷ [])) s (refusedText 1)
-  -- `open` kind count
-  pub opening : (k m : ℕ) → k ≤ greatest → m ≤ greatest → Replies s (line "open" (k ∷ m ∷ [])) (openCall gateway k m (s .table))
+  -- `item` worker label price: behind the others
+  pub item : (w v cents : ℕ) → w ≤ greatest → v ≤ greatest → cents ≤ greatest → length (s .items) < 1024
+      → Does s (line "item" (w ∷ v ∷ cents ∷ []))
+      (stateWith (s .phase) (s .table) (s .items ++ (record { key = v; price = cents; worker = w } ∷ []))) (bytesOf "\tok")
+  -- past 1,024 items it is `bad`
+  pub item-full : 1024 ≤ length (s .items) → (l : List ℕ) → FirstIs (bytesOf "item") l → Bad s l
+  -- `open` kind count: the opening is lent the items, and whatever it answers they are kept
+  pub opening : (k m : ℕ) → k ≤ greatest → m ≤ greatest → Replies s (line "open" (k ∷ m ∷ [])) (openCall gateway k m (s .table) (s .items))
   -- in a shut shift `run` and every line whose first field is `order` answer 11
   pub run : Does s (line "run" []) s (refusedText 11)
   pub order : (l : List ℕ) → FirstIs (bytesOf "order") l → Does s l s (refusedText 11)
@@ -160,21 +175,22 @@ pub record InShut (s : State) : Type 0 where
 
 -- ---- in an open shift
 pub record InOpen (s : State) : Type 0 where
-  -- `cells` or `open` in an open shift answers `bad` and ends the replay, whatever follows
+  -- `cells`, `open` or `item` in an open shift answers `bad` and ends the replay, whatever follows
   pub cells : (l : List ℕ) → FirstIs (bytesOf "cells") l → Bad s l
   pub opening : (l : List ℕ) → FirstIs (bytesOf "open") l → Bad s l
-  -- `order` worker label price in a put-in shift
-  pub order-priced : s .phase .kind ≡ 1 → (w v cents : ℕ) → w ≤ greatest → v ≤ greatest → cents ≤ greatest
-      → Replies s (line "order" (w ∷ v ∷ cents ∷ [])) (orderCall gateway (s .phase) w v cents)
-  -- `order` worker label in the others, where the price of an order call is not read
-  pub order : s .phase .kind ≢ 1 → (w v cents : ℕ) → w ≤ greatest → v ≤ greatest → Replies s (line "order" (w ∷ v ∷ [])) (orderCall gateway (s .phase) w v cents)
+  pub item : (l : List ℕ) → FirstIs (bytesOf "item") l → Bad s l
+  -- `order` place in a put-in shift: by that line of the items, from 0; a worker and a label handed to the order call are not read there
+  pub order-placed : s .phase .kind ≡ 1 → (i : ℕ) → i ≤ greatest → (w v : ℕ) → Replies s (line "order" (i ∷ [])) (orderCall gateway (s .phase) (s .items) i w v)
+  -- `order` worker label in the others, where a list and a line number handed to the order call are not read
+  pub order : s .phase .kind ≢ 1 → (w v : ℕ) → w ≤ greatest → v ≤ greatest → (os : List Order) (i : ℕ)
+      → Replies s (line "order" (w ∷ v ∷ [])) (orderCall gateway (s .phase) os i w v)
   -- another number of fields is not readable there
-  pub order-misfit : s .phase .kind ≡ 1 → (ns : List ℕ) → length ns ≢ 3 → Bad s (line "order" ns)
+  pub order-misfit : s .phase .kind ≡ 1 → (ns : List ℕ) → length ns ≢ 1 → Bad s (line "order" ns)
   pub order-other-misfit : s .phase .kind ≢ 1 → (ns : List ℕ) → length ns ≢ 2 → Bad s (line "order" ns)
   -- `run` deals turns until all are idle, and gives one field per worker; a shift has at most 16 workers
   pub run : s .phase .crew ≤ 16
       → let d = dealing.run gateway (s .phase) (s .table) in
-      Does s (line "run" []) (stateWith (d .dealt .phase) (d .table)) (workersText (s .phase .crew) (finishText (d .dealt .finishes)))
+      Does s (line "run" []) (stateWith (d .dealt .phase) (d .table) (s .items)) (workersText (s .phase .crew) (finishText (d .dealt .finishes)))
   pub unreadable : (l : List ℕ) → Unreadable (s .phase .kind) l → Bad s l
 
 -- ---- in either
@@ -182,21 +198,28 @@ pub record InEither (s : State) : Type 0 where
   -- `turn` worker: the turn's record, table and answer
   pub turn : (w : ℕ) → w ≤ greatest
       → let r = turnCall gateway (s .phase) (s .table) w in
-      Does s (line "turn" (w ∷ [])) (stateWith (r .phase) (turnTable gateway (s .phase) (s .table) w)) (turnText (r .reply))
-  -- `close`
-  pub close : Replies s (line "close" []) (closeCall gateway (s .phase))
+      Does s (line "turn" (w ∷ [])) (stateWith (r .phase) (turnTable gateway (s .phase) (s .table) w) (s .items)) (turnText (r .reply))
+  -- `close`, which clears the items exactly if it is accepted in a put-in shift
+  pub close : s .phase .kind ≢ 1 → Replies s (line "close" []) (closeCall gateway (s .phase))
+  pub close-refused : (r : Refusal) → closeCall gateway (s .phase) .reply ≡ Refused r → Does s (line "close" []) s (refusedText (numberOf r))
+  pub close-clears : s .phase .kind ≡ 1 → closeCall gateway (s .phase) .reply ≡ Accepted
+      → Does s (line "close" []) (stateWith (closeCall gateway (s .phase) .phase) (s .table) []) (bytesOf "\tok")
   -- `list` gives the count, then each label followed by its price, where the check passes the table, and else the check's refusal
   pub list : checkCall gateway (s .table) ≡ Accepted → Does s (line "list" []) s (listText (entriesOf (s .table)))
   pub list-refused : (r : Refusal) → checkCall gateway (s .table) ≡ Refused r → Does s (line "list" []) s (refusedText (numberOf r))
+  -- every line but `item` and `close` keeps the items
+  pub keeps-items : (l : List ℕ) → (FirstIs (bytesOf "item") l → ⊥) → (FirstIs (bytesOf "close") l → ⊥) → answerOf s (readingOf l) .state .items ≡ s .items
 
 -- ---- every replay
 pub record SheetPromise : Type 0 where
   -- before `open` the shift counts as shut; before `cells` the table has length 0
   pub before-open : blank .phase .shut ≡ true
-  pub before-order : (w v cents : ℕ) → orderCall gateway (blank .phase) w v cents .reply ≡ Refused Shut
+  pub before-order : (os : List Order) (i w v : ℕ) → orderCall gateway (blank .phase) os i w v .reply ≡ Refused Shut
   pub before-turn : (t : List ℕ) (w : ℕ) → turnCall gateway (blank .phase) t w .reply ≡ turn.Refused Shut
   pub before-close : closeCall gateway (blank .phase) .reply ≡ Refused Shut
   pub before-cells : length (blank .table) ≡ 0
+  -- and there are no items
+  pub before-items : blank .items ≡ []
   -- in every state
   pub shut : (s : State) → s .phase .shut ≡ true → InShut s
   pub opened : (s : State) → s .phase .shut ≡ false → InOpen s
@@ -208,6 +231,9 @@ pub record SheetPromise : Type 0 where
   pub valid-first : Valid blank
   pub valid : (s : State) → Valid s → (l : List ℕ) → Valid (answerOf s (readingOf l) .state)
   pub crew : (s : State) → Valid s → s .phase .shut ≡ false → (1 ≤ s .phase .crew) × (s .phase .crew ≤ 16)
+  -- and at most 1,024 items, so that no opening answers 16
+  pub few-items : (s : State) → Valid s → length (s .items) ≤ 1024
+  pub never-long : (s : State) → Valid s → (k m : ℕ) → openCall gateway k m (s .table) (s .items) .reply ≢ Refused LongList
   -- there a turn that answers a price tells the one at which the label looked up stands in the table, and where one answers no it stands at none
   pub told : (s : State) → Valid s → s .phase .shut ≡ false → (w : ℕ) (a : Answer) → turnCall gateway (s .phase) (s .table) w .reply ≡ turn.Answered a
       → Tells (s .phase) (s .table) w a

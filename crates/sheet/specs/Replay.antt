@@ -2,13 +2,16 @@
 use mathlib.Core.Bool.{Bool, true, false, cond}
 use mathlib.Core.List.{List, [], _∷_, _++_}
 use Prim.Native.Nat.{ℕ, _+_}
-use lib.Dec.{ltb}
-use lib.ListN.{getD, replicate}
+use lib.Dec.{ltb, eqb}
+use lib.ListN.{length, getD, replicate}
+use Rattle.orders.specs.Orders.{orderWith}
+use Rattle.orders.specs.declared.Order.{Order}
 use Rattle.state.specs.Model.{gateway}
 use Rattle.state.specs.Open.{refusedPhase, openCall}
 use Rattle.state.specs.declared.Phase.{Phase}
 use Rattle.state.specs.declared.Refusal.the-variants.{Size, Shut}
 use Rattle.state.specs.declared.Replied.{Replied}
+use Rattle.state.specs.declared.Reply.{Reply}
 use Rattle.state.specs.declared.Reply.the-variants.{Accepted, Refused}
 use Rattle.tables.specs.Calls.{listCall}
 use Rattle.tables.specs.declared.Counted.{Counted}
@@ -33,10 +36,12 @@ use Rattle.fitting.specs.Fitting.{readingIn}
 pub record State : Type 0 where
   pub phase : Phase
   pub table : List ℕ
+  -- the list of orders that the `item` lines have formed
+  pub items : List Order
 
--- before the first line: the phase counts as shut, the table has no cells
+-- before the first line: the phase counts as shut, the table has no cells, and there are no items
 abbrev pub blank : State
-blank = record { phase = refusedPhase gateway; table = [] }
+blank = record { phase = refusedPhase gateway; table = []; items = [] }
 
 -- ---- what a line does
 -- the state afterwards, what is told, and how the workers' operations ended in a run
@@ -51,9 +56,9 @@ noFinishes = replicate (gateway .room) unfinished
 abbrev pub tells : State → Told → Step
 tells s a = record { state = s; told = a; finishes = noFinishes }
 
--- an answer with the phase that it leaves
-abbrev pub calls : List ℕ → Replied → Step
-calls t r = tells (record { phase = r .phase; table = t }) (replied (r .reply))
+-- an answer with the phase that it leaves, beside the table and the items
+abbrev pub calls : List ℕ → List Order → Replied → Step
+calls t os r = tells (record { phase = r .phase; table = t; items = os }) (replied (r .reply))
 
 -- the longest table of a sheet
 abbrev pub mostSheetCells : ℕ
@@ -67,15 +72,29 @@ abbrev pub cellsTask : State → ℕ → Step
 cellsTask s n =
     cond (ltb n (gateway .fewestCells)) (tells s (replied (Refused Size)))
     (cond (ltb mostSheetCells n) (tells s (replied (Refused Size)))
-    (tells (record { phase = s .phase; table = replicate n 0 }) (replied Accepted)))
+    (tells (record { phase = s .phase; table = replicate n 0; items = s .items }) (replied Accepted)))
+
+-- one item more, behind the others
+abbrev pub itemTask : State → (w v cents : ℕ) → Step
+itemTask s w v cents = tells (record { phase = s .phase; table = s .table; items = s .items ++ (orderWith v cents w ∷ []) }) (replied Accepted)
 
 abbrev pub turnTask : State → ℕ → Step
 turnTask s w =
     let r = turnCall gateway (s .phase) (s .table) w in
-    tells (record { phase = r .phase; table = turnTable gateway (s .phase) (s .table) w }) (Turned (r .reply))
+    tells (record { phase = r .phase; table = turnTable gateway (s .phase) (s .table) w; items = s .items }) (Turned (r .reply))
 
 abbrev pub runTask : State → Step
-runTask s = let d = run gateway (s .phase) (s .table) in record { state = record { phase = d .dealt .phase; table = d .table }; told = Ran; finishes = d .dealt .finishes }
+runTask s =
+    let d = run gateway (s .phase) (s .table) in
+    record { state = record { phase = d .dealt .phase; table = d .table; items = s .items }; told = Ran; finishes = d .dealt .finishes }
+
+-- the items last until the close of an insert phase (put-in shift)
+abbrev pub itemsAfter : ℕ → Reply → List Order → List Order
+itemsAfter k Accepted os = cond (eqb k 1) [] os
+itemsAfter k (Refused r) os = os
+
+abbrev pub closeTask : State → Step
+closeTask s = let r = closeCall gateway (s .phase) in calls (s .table) (itemsAfter (s .phase .kind) (r .reply) (s .items)) r
 
 -- listed into a list as long as the table
 abbrev pub listTold : Counted → Told
@@ -85,14 +104,16 @@ listTold (counted.Refused r) = replied (Refused r)
 abbrev pub listTask : State → Step
 listTask s = tells s (listTold (listCall gateway (s .table) (s .table)))
 
--- what a command does with these numbers. A line of an unknown command is never carried out: its row says so
+-- what a command does with these numbers. An opening is lent the items whatever its kind; an order's first number is a place in an insert phase, else the
+-- worker. A line of an unknown command is never carried out: its row says so
 abbrev pub commanded : State → Command → List ℕ → Step
 commanded s Command.Cells ns = cellsTask s (getD ns 0 0)
-commanded s Command.Open ns = calls (s .table) (openCall gateway (getD ns 0 0) (getD ns 1 0) (s .table))
-commanded s Command.Order ns = calls (s .table) (orderCall gateway (s .phase) (getD ns 0 0) (getD ns 1 0) (getD ns 2 0))
+commanded s Command.Open ns = calls (s .table) (s .items) (openCall gateway (getD ns 0 0) (getD ns 1 0) (s .table) (s .items))
+commanded s Command.Item ns = itemTask s (getD ns 0 0) (getD ns 1 0) (getD ns 2 0)
+commanded s Command.Order ns = calls (s .table) (s .items) (orderCall gateway (s .phase) (s .items) (getD ns 0 0) (getD ns 0 0) (getD ns 1 0))
 commanded s Command.Turn ns = turnTask s (getD ns 0 0)
 commanded s Command.Run ns = runTask s
-commanded s Command.Close ns = calls (s .table) (closeCall gateway (s .phase))
+commanded s Command.Close ns = closeTask s
 commanded s Command.List ns = listTask s
 commanded s Command.Unknown ns = tells s (replied (Refused Shut))
 
@@ -115,7 +136,7 @@ answered s Bad ns = record { state = s; printed = field bad ++ 10 ∷ []; ended 
 answered s (Todo t) ns = record { state = performed s t ns .state; printed = printedOf (performed s t ns); ended = false }
 
 unfoldable pub answerOf : State → Line → Answer
-answerOf s l = answered s (readingIn (s .phase .kind) (s .phase .shut) l) (l .numbers .values)
+answerOf s l = answered s (readingIn (s .phase .kind) (length (s .items)) (s .phase .shut) l) (l .numbers .values)
 
 -- the output line of sheet line n
 abbrev pub rendered : ℕ → Answer → List ℕ

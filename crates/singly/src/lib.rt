@@ -1,7 +1,9 @@
 // Lists of calls, lent as numbers, each through the function of that call.
 use calls::close;
-use calls::order;
+use calls::order_found;
 use calls::turn;
+use parallel::least;
+use parallel::line_of;
 use protocol::TurnReply;
 use rule::Answer;
 use state::Phase;
@@ -9,6 +11,7 @@ use state::Refusal;
 use state::Reply;
 ghost use mathlib.Core.Path.{_≡_};
 ghost use Prim.Native.Nat.{min};
+ghost use Rattle.orders.specs.Orders.{ordersOf};
 ghost use Rattle.state.specs.Model.{gateway};
 ghost use Rattle.numbered.specs.Numbers.{refusalAnswer, stepAnswer, turnAnswer, replyAnswer};
 ghost use Rattle.numbered.specs.Lists.{callsLent, RunsFrom};
@@ -56,51 +59,51 @@ pub fn reply_answer(reply: Reply) -> u64
 }
 
 // ---- a list of calls
-fn least(a: usize, b: usize) -> usize
-    ensures { λ r. ⌜ r ≡ min a b ⌝ }
-{
-    if a < b { a } else { b }
-}
-
 // As many as the shortest of five lists has.
-pub fn fewest(ops: usize, workers: usize, keys: usize, prices: usize, answers: usize) -> usize
-    ensures { λ r. ⌜ r ≡ min (min ops workers) (min (min keys prices) answers) ⌝ }
+pub fn fewest(ops: usize, lines: usize, workers: usize, keys: usize, answers: usize) -> usize
+    ensures { λ r. ⌜ r ≡ min (min ops lines) (min (min workers keys) answers) ⌝ }
 {
-    least(least(ops, workers), least(least(keys, prices), answers))
+    least(least(ops, lines), least(least(workers, keys), answers))
 }
 
-// Applies calls from a phase on, as many as the shortest of the five lists has; `answers` takes their answers' numbers. Operation 1 is an order, 2
-// a turn, any other a close. Each call goes by itself: the phase by value, and tested at each.
+// Applies calls from a phase on, as many as the shortest of ops, lines, workers, keys and answers has; `answers` takes their answers' numbers.
+// Operation 1 is an order, 2 a turn, any other a close; the list of orders is lent to each order. Each call goes by itself: the phase by value, and
+// tested at each.
 pub fn run_singly(
     phase: Phase,
     cells: &mut [u64],
+    order_keys: &[u32],
+    order_prices: &[u32],
+    order_workers: &[u32],
     ops: &[u32],
+    lines: &[u32],
     workers: &[u32],
     keys: &[u32],
-    prices: &[u32],
     answers: &mut [u64],
 ) -> Phase
-    ensures { λ r. ⌜ RunsFrom gateway phase (now (cells .entry)) (callsLent (now (ops .entry)) (now (workers .entry)) (now (keys .entry)) (now (prices .entry)) (now (answers .entry)))
+    ensures { λ r. ⌜ RunsFrom gateway (ordersOf (now («order_keys» .entry)) (now («order_prices» .entry)) (now («order_workers» .entry))) phase (now (cells .entry))
+        (callsLent (now (ops .entry)) (now (lines .entry)) (now (workers .entry)) (now (keys .entry)) (now (answers .entry)))
         (now (answers .entry)) r (now (cells .exit)) (now (answers .exit)) ⌝ }
 {
     let all = fewest(
         ops.len(),
+        lines.len(),
         workers.len(),
         keys.len(),
-        prices.len(),
         answers.len(),
     );
     let mut next = phase;
     let mut i: usize = 0;
     while i < all {
         let op = ops[i];
+        let line = lines[i] as usize;
         let worker = workers[i] as usize;
         let key = keys[i];
-        let price = prices[i];
         let place = i;
         i += 1;
         if op == 1 {
-            let ordered = order(next, worker, key, price);
+            let found = line_of(order_keys, order_prices, order_workers, line);
+            let ordered = order_found(next, found, worker, key);
             next = ordered.phase;
             let reply = ordered.reply;
             answers[place] = reply_answer(reply);

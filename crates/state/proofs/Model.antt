@@ -9,4 +9,4 @@ pub gateway-proper : Proper gateway
 gateway-proper = record { some = omega arith; places = omega arith; homes = λ n x l. mod-home n l x }
 
 pub gateway-promise : GatewayPromise
-gateway-promise = record { proper = gateway-proper; cells = within-says 2 8192; workers = within-says 1 16; homes = λ n x. refl }
+gateway-promise = record { proper = gateway-proper; cells = within-says 2 8192; workers = within-says 1 16; orders = refl; homes = λ n x. refl }

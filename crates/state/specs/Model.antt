@@ -11,6 +11,8 @@ pub record Model : Type 0 where
   pub mostCells : ℕ
   pub fewestWorkers : ℕ
   pub mostWorkers : ℕ
+  -- the most lines of the list that an insert phase (put-in shift) is opened with
+  pub mostLines : ℕ
   -- how many workers the phase state has places for
   pub room : ℕ
   -- the home of a key in a table of so many cells
@@ -25,7 +27,7 @@ pub record Proper (M : Model) : Type 0 where
 -- document 01's model: `size_ok` and `crew_ok`, which read the constants of the phase state, are proved to go by these limits, and `geometry::home` to
 -- be this rule
 abbrev pub gateway : Model
-gateway = record { fewestCells = 2; mostCells = 8192; fewestWorkers = 1; mostWorkers = 16; room = 16; home = modulo }
+gateway = record { fewestCells = 2; mostCells = 8192; fewestWorkers = 1; mostWorkers = 16; mostLines = 65536; room = 16; home = modulo }
 
 abbrev pub sizeOk : Model → ℕ → Bool
 sizeOk M n = cond (ltb n (M .fewestCells)) false (leb n (M .mostCells))
@@ -39,4 +41,6 @@ pub record GatewayPromise : Type 0 where
   -- tables have 2 to 8,192 cells, shifts 1 to 16 workers, and the home of a label is the label modulo the length
   pub cells : (n : ℕ) → sizeOk gateway n ≡ true ↔ ((2 ≤ n) × (n ≤ 8192))
   pub workers : (m : ℕ) → crewOk gateway m ≡ true ↔ ((1 ≤ m) × (m ≤ 16))
+  -- a list of orders has at most 65,536 lines
+  pub orders : gateway .mostLines ≡ 65536
   pub homes : (n x : ℕ) → gateway .home n x ≡ x % n

@@ -1,15 +1,24 @@
 // The phase state (document 01: shift record) with its limits and its opening, and the refusals.
 use activities::Activity;
 use activities::Worker;
-use listing::count_keys;
+use crowding::lines_crowded;
+use distinct::crowded;
+use lent::lines_fault;
+use orders::Order;
+use parallel::fault_of;
+use parallel::lines_of;
 use soundness::is_sound;
 ghost use Prim.Native.Nat.{_≤_};
+ghost use mathlib.Core.Bool.{false, cond};
 ghost use mathlib.Core.Path.{_≡_};
+ghost use lib.Dec.{ltb, eqb};
 ghost use lib.ListN.{length};
+ghost use Rattle.orders.specs.Orders.{ordersOf};
+ghost use Rattle.activities.specs.Kinds.{kindOk};
 ghost use Rattle.state.specs.Model.{gateway, sizeOk, crewOk};
-ghost use Rattle.activities.specs.Kinds.{kindOk, allowance};
-ghost use Rattle.state.specs.Open.{fresh, refusedPhase, openCall};
-ghost use Rattle.state.specs.Refusals.{numberOf};
+ghost use Rattle.state.specs.Open.{fresh, refusedPhase, opened, openCall};
+ghost use Rattle.state.specs.Refusals.{numberOf, firstOf};
+ghost use Rattle.state.specs.Stages.{readsList, earlyBars, lateBars};
 
 // Why a call is refused: the words of document 01's table, in its order, then the numbers of document 02.
 pub enum Refusal {
@@ -27,6 +36,8 @@ pub enum Refusal {
     ShortList,
     Spoilt,
     WrongPrice,
+    NoLine,
+    LongList,
 }
 
 impl Refusal {
@@ -49,6 +60,8 @@ impl Refusal {
             Refusal::ShortList => 12,
             Refusal::Spoilt => 13,
             Refusal::WrongPrice => 14,
+            Refusal::NoLine => 15,
+            Refusal::LongList => 16,
         }
     }
 }
@@ -59,12 +72,11 @@ pub enum Reply {
     Refused(Refusal),
 }
 
-// The state of a phase. `left`: insert operations that may still be ordered, 0 in other kinds.
+// The state of a phase.
 pub struct Phase {
     pub kind: u32,
     pub length: u32,
     pub crew: u32,
-    pub left: u32,
     pub shut: bool,
     pub workers: [Worker; Phase::ROOM],
 }
@@ -83,6 +95,9 @@ impl Phase {
     pub const FEWEST_WORKERS: usize = 1;
 
     pub const MOST_WORKERS: usize = 16;
+
+    // The most lines of the list that an insert phase is opened with.
+    pub const MOST_LINES: usize = 65536;
 
     // The places for workers in a phase.
     pub const ROOM: usize = Self::MOST_WORKERS;
@@ -117,8 +132,8 @@ impl Phase {
     }
 
     // A phase with all workers idle.
-    fn fresh(kind: u32, length: u32, crew: u32, left: u32, shut: bool) -> Phase
-        ensures { λ r. ⌜ r ≡ fresh gateway kind length crew left shut ⌝ }
+    fn fresh(kind: u32, length: u32, crew: u32, shut: bool) -> Phase
+        ensures { λ r. ⌜ r ≡ fresh gateway kind length crew shut ⌝ }
     {
         let workers = [Worker {
             activity: Activity::Idle,
@@ -127,7 +142,6 @@ impl Phase {
             kind,
             length,
             crew,
-            left,
             shut,
             workers,
         }
@@ -137,30 +151,44 @@ impl Phase {
         ensures { λ r. ⌜ r ≡ record { phase = refusedPhase gateway; reply = Reply.Refused why } ⌝ }
     {
         Replied {
-            phase: Self::fresh(3, 2, 1, 0, true),
+            phase: Self::fresh(3, 2, 1, true),
             reply: Reply::Refused(why),
         }
     }
 
-    // The insert operations that a phase on these cells takes.
-    fn allowance(kind: u64, cells: &[u64]) -> u32
-        requires { ⌜ length (now cells) ≤ gateway .mostCells ⌝ }
-        ensures { λ r. ⌜ r ≡ allowance kind (now (cells .entry)) ⌝ }
+    // Whether a list of so many lines is too long: of an insert phase alone.
+    fn is_too_long(kind: u64, lines: usize) -> bool
+        ensures { λ r. ⌜ r ≡ cond (eqb kind 1) (ltb (gateway .mostLines) lines) false ⌝ }
     {
-        if kind != 1 {
-            return 0;
-        }
-        let count = count_keys(cells);
-        if count < cells.len() {
-            (cells.len() - count - 1) as u32
+        if kind == 1 {
+            Self::MOST_LINES < lines
         } else {
-            0
+            false
         }
     }
 
-    // Opens a phase of a kind, with a crew of so many workers, on a table.
-    pub fn open(kind: u64, crew: u64, cells: &[u64]) -> Replied
-        ensures { λ r. ⌜ r ≡ openCall gateway kind crew (now (cells .entry)) ⌝ }
+    // Whether the opening goes on to the list: of an insert phase, that nothing is refused before.
+    fn reads_list(kind: u64, crew: u64, cells: &[u64], lines: usize) -> bool
+        ensures { λ r. ⌜ r ≡ readsList gateway kind crew (now (cells .entry)) lines ⌝ }
+    {
+        if kind != 1 {
+            return false;
+        }
+        if !Self::size_ok(cells.len()) {
+            return false;
+        }
+        if !Self::crew_ok(crew as usize) {
+            return false;
+        }
+        if Self::MOST_LINES < lines {
+            return false;
+        }
+        is_sound(cells)
+    }
+
+    // The opening where it does not go on to the list.
+    fn opened_early(kind: u64, crew: u64, cells: &[u64], lines: usize) -> Replied
+        ensures { λ r. ⌜ r ≡ opened gateway kind crew (now (cells .entry)) (firstOf (earlyBars gateway kind crew (now (cells .entry)) lines)) ⌝ }
     {
         if !Self::size_ok(cells.len()) {
             return Self::refused(Refusal::Size);
@@ -171,13 +199,71 @@ impl Phase {
         if !Self::kind_ok(kind) {
             return Self::refused(Refusal::Kind);
         }
+        if Self::is_too_long(kind, lines) {
+            return Self::refused(Refusal::LongList);
+        }
         if !is_sound(cells) {
             return Self::refused(Refusal::Unsound);
         }
-        let left = Self::allowance(kind, cells);
         Replied {
-            phase: Self::fresh(kind as u32, cells.len() as u32, crew as u32, left, false),
+            phase: Self::fresh(kind as u32, cells.len() as u32, crew as u32, false),
             reply: Reply::Accepted,
         }
+    }
+
+    // The opening of an insert phase behind the check of the lines: the number of what is wrong with them, and whether table and list together are too many.
+    fn opened_late(crew: u64, cells: &[u64], fault: u32, full: bool) -> Replied
+        requires { ⌜ (length (now cells) ≤ 8192) × (crew ≤ 16) ⌝ }
+        ensures { λ r. ⌜ r ≡ opened gateway 1 crew (now (cells .entry)) (firstOf (lateBars fault full)) ⌝ }
+    {
+        if fault == 7 {
+            return Self::refused(Refusal::Blank);
+        }
+        if fault == 14 {
+            return Self::refused(Refusal::WrongPrice);
+        }
+        if fault == 6 {
+            return Self::refused(Refusal::NoWorker);
+        }
+        if full {
+            return Self::refused(Refusal::Full);
+        }
+        Replied {
+            phase: Self::fresh(1, cells.len() as u32, crew as u32, false),
+            reply: Reply::Accepted,
+        }
+    }
+
+    // Opens a phase of a kind, with a crew of so many workers, on a table; an insert phase with a list of orders, which the other kinds do not read.
+    pub fn open(kind: u64, crew: u64, cells: &[u64], orders: &[Order]) -> Replied
+        ensures { λ r. ⌜ r ≡ openCall gateway kind crew (now (cells .entry)) (now (orders .entry)) ⌝ }
+    {
+        let lines = orders.len();
+        if Self::reads_list(kind, crew, cells, lines) {
+            let fault = lines_fault(orders, crew as u32);
+            let full = lines_crowded(cells, orders);
+            return Self::opened_late(crew, cells, fault, full);
+        }
+        Self::opened_early(kind, crew, cells, lines)
+    }
+
+    // The same with the list in three parallel slices: as many lines as the shortest has.
+    pub fn open_parallel(
+        kind: u64,
+        crew: u64,
+        cells: &[u64],
+        keys: &[u32],
+        prices: &[u32],
+        workers: &[u32],
+    ) -> Replied
+        ensures { λ r. ⌜ r ≡ openCall gateway kind crew (now (cells .entry)) (ordersOf (now (keys .entry)) (now (prices .entry)) (now (workers .entry))) ⌝ }
+    {
+        let lines = lines_of(keys, prices, workers);
+        if Self::reads_list(kind, crew, cells, lines) {
+            let fault = fault_of(keys, prices, workers, crew as u32);
+            let full = crowded(cells, &keys[..lines]);
+            return Self::opened_late(crew, cells, fault, full);
+        }
+        Self::opened_early(kind, crew, cells, lines)
     }
 }

@@ -15,7 +15,7 @@ use Rattle.words.specs.Promise.{keysBefore, ListingPromise}
 use Rattle.words.proofs.Number.{once-size}
 use Rattle.words.proofs.Order.{group-writes, group-skips, any-order}
 use Rattle.words.proofs.Places.{group-length, group-cell, place-is, count-occupied}
-use Rattle.words.proofs.Words.{word-lt, word-bit, length-entries, occupied-counts, vacant-occupied, entry-in-place}
+use Rattle.words.proofs.Words.{word-lt, word-bit, length-entries, occupied-counts, entry-in-place}
 
 occupied-before : (t : List ℕ) → occupied t ≡ keysBefore t (length t)
 occupied-before t = let h : length t ≤ length t = omega arith in occupied-counts t ∙ rw (take-all (length t) t h)
@@ -32,7 +32,6 @@ theorem t =
       count = count-occupied t;
       long = length-entries t;
       keys = occupied-before t;
-      empty = vacant-occupied t;
       number = λ n home hb s. count-occupied t ∙ once-size t (rw (s .sized) (layout.theorem n home hb .once (labels label t) s));
       listed = entry-in-place t;
       group-fills = group-writes t;

@@ -12,7 +12,6 @@ use lib.ListN.{length, getD}
 use lib.Pow.{shr-le, shr-shr}
 use borrow.Author.Tests.{ne-eqb}
 use Rattle.ring.specs.Counting.{bit, count}
-use Rattle.layout.specs.Sound.{vacant}
 use Rattle.prices.specs.Contents.{label}
 use Rattle.prices.specs.Priced.{labels}
 use Rattle.words.specs.Words.{taken, occupied, entriesOf, wordOf}
@@ -76,16 +75,6 @@ occupied-append (x ∷ xs) ys = omega (arith, occupied-append xs ys)
 pub occupied-le : (xs : List ℕ) → occupied xs ≤ length xs
 occupied-le [] = omega arith
 occupied-le (x ∷ xs) = omega (arith, taken-le x, occupied-le xs)
-
--- each cell holds a label or none
-one-of-two : (b : Bool) → bit b + cond b 0 1 ≡ 1
-one-of-two true = refl
-one-of-two false = refl
-
-pub vacant-occupied : (t : List ℕ) → vacant (labels label t) + occupied t ≡ length t
-unfolding count
-vacant-occupied [] = refl
-vacant-occupied (x ∷ xs) = omega (arith, one-of-two (eqb (label x) 0), vacant-occupied xs)
 
 pub entries-append : (xs ys : List ℕ) → entriesOf (xs ++ ys) ≡ entriesOf xs ++ entriesOf ys
 entries-append [] ys = refl

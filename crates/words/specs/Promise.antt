@@ -8,7 +8,7 @@ use lib.Dec.{eqb}
 use lib.ListN.{length, getD, take}
 use Rattle.ring.specs.Counting.{count}
 use Rattle.layout.specs.Layout.{In, size}
-use Rattle.layout.specs.Sound.{Sound, vacant}
+use Rattle.layout.specs.Sound.{Sound}
 use Rattle.prices.specs.Contents.{label}
 use Rattle.prices.specs.Priced.{labels}
 use Rattle.words.specs.Words.{occupied, entriesOf, filled, groups, group, wordOf, placeOf, countOf, groupListed, groupsListed}
@@ -40,8 +40,6 @@ pub record Listing (t : List ℕ) : Type 0 where
   pub count : countOf t ≡ occupied t
   pub long : length (entriesOf t) ≡ occupied t
   pub keys : occupied t ≡ keysBefore t (length t)
-  -- the other cells have no label
-  pub empty : vacant (labels label t) + occupied t ≡ length t
   -- where the labels are a sound table it is the number of labels
   pub number : (n : ℕ) (home : ℕ → ℕ) → ((x : ℕ) → home x < n) → Sound n home (labels label t) → countOf t ≡ size (labels label t)
   pub listed : InCellOrder t (entriesOf t)

@@ -32,7 +32,8 @@ returns c =
     let a = d .args in
     let put = c .before .before .before .before .before .before .before .put-reply .ensures in
     order-told (g .one-order .ensures)
-    (reply-printed (a .number) (g .one-order .result .reply) (d .fits .number .fits) (d .pre .1) (b .put-number .ensures) put (c .before .before .put-bytes .ensures))
+    (reply-printed (a .number) (g .one-order .result .reply) (d .fits .number .fits) (d .pre .1) (b .put-number .ensures) put
+    (c .before .before .put-bytes .ensures))
 
 pub answer-order-spec : {M : Type 1} → statement M
 answer-order-spec =

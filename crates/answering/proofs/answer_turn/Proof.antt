@@ -45,7 +45,8 @@ returns c =
     let a = d .args in
     let put = c .before .before .before .before .before .before .before .put-turn .ensures in
     turn-told (m .one-turn .ensures)
-    (turn-printed (a .number) (m .one-turn .result .reply) (d .fits .number .fits) (d .pre .1 .1 .1) (b .put-number .ensures) put (c .before .before .put-bytes .ensures))
+    (turn-printed (a .number) (m .one-turn .result .reply) (d .fits .number .fits) (d .pre .1 .1 .1) (b .put-number .ensures) put
+    (c .before .before .put-bytes .ensures))
 
 pub answer-turn-spec : {M : Type 1} → statement M
 answer-turn-spec =

@@ -1,20 +1,28 @@
 use mathlib.Core.Path.{ap, _∙_}
-use Prim.Native.Nat.{_-_}
-use Rattle.state.specs.declared.Replied.{Replied}
-use Rattle.printing.specs.declared.Told.{Told}
-use Rattle.answering.specs.Store.{toldOf}
+use Rattle.orders.specs.declared.Found.{Found}
+use Rattle.state.specs.Model.{gateway}
+use Rattle.protocol.specs.Calls.{orderFound}
+use Rattle.answering.specs.Store.{repliedOf}
 use borrow.Author.Needs.{needs}
 use Rattle.answering.proofs.give_order.Statement.{statement}
 use Rattle.answering.proofs.give_order.Tie as tie
 
-order-requires : tie.Need-order-requires
-order-requires c κs = search needs
+item-at-requires : tie.Need-item-at-requires
+item-at-requires c κs = search needs
+
+order-found-requires : tie.Need-order-found-requires
+order-found-requires c κs = search needs
 
 tell-requires : tie.Need-tell-requires
 tell-requires c κs = search needs
 
 returns : tie.Need-returns
-returns c = c .tell .ensures ∙ ap (λ (x : Replied). toldOf (x .phase) (c .before .before .before .before .args .replay .length) (Told.Replied (x .reply))) (c .before .before .order .ensures)
+returns c =
+    let a = c .before .before .before .before .before .before .args in
+    let r = a .replay in
+    let asked = c .before .before .order-found .ensures
+    ∙ ap (λ (f : Found). orderFound gateway (r .phase) f (a .first) (a .key)) (c .before .before .before .item-at .ensures) in
+    c .tell .ensures ∙ ap (repliedOf (r .length) (r .items)) asked
 
 pub give-order-spec : {M : Type 1} → statement M
-give-order-spec = tie.close (tie.spec order-requires tell-requires returns)
+give-order-spec = tie.close (tie.spec item-at-requires order-found-requires tell-requires returns)

@@ -1,5 +1,5 @@
 use mathlib.Core.Path.{sym}
-use Prim.Native.Nat.{_-_}
+use lib.ListN.{take}
 use Rattle.answering.proofs.Store.{table-length, lists}
 use borrow.Author.Needs.{needs}
 use Rattle.answering.proofs.list_table.Statement.{statement}
@@ -24,13 +24,19 @@ tell-requires-2 : tie.Need-tell-requires-2
 tell-requires-2 c κs = search needs
 
 returns : tie.Need-returns
-returns c = let a = c .before .before .before .before .before .before .before .args in lists (a .replay) (a .cells .now)
-    (c .before .before .before .before .before .before .before .pre) _ _ _ (c .before .before .counted .given .1) (c .before .before .before .before .count .ensures)
+returns c =
+    let a = c .before .before .before .before .before .before .before .args in
+    let r = a .replay in
+    let t = take (r .length) (a .cells .now) in
+    lists (r .phase) (r .length) (r .items) t _ _ _ (c .before .before .counted .given .1) (c .before .before .before .before .count .ensures)
     (c .tell .ensures)
 
 returns-2 : tie.Need-returns-2
-returns-2 c = let a = c .before .before .before .before .before .before .before .args in lists (a .replay) (a .cells .now)
-    (c .before .before .before .before .before .before .before .pre) _ _ _ (c .before .before .counted2 .given .1) (c .before .before .before .before .count .ensures)
+returns-2 c =
+    let a = c .before .before .before .before .before .before .before .args in
+    let r = a .replay in
+    let t = take (r .length) (a .cells .now) in
+    lists (r .phase) (r .length) (r .items) t _ _ _ (c .before .before .counted2 .given .1) (c .before .before .before .before .count .ensures)
     (c .tell2 .ensures)
 
 pub list-table-spec : {M : Type 1} → statement M

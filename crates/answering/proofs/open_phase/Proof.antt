@@ -1,22 +1,92 @@
-use mathlib.Core.Path.{sym}
-use Prim.Native.Nat.{_-_}
-use Rattle.answering.proofs.Store.{table-length, opened}
+use mathlib.Core.Path.{sym, ap, ap₂, _∙_}
+use mathlib.Core.List.{List}
+use Prim.Native.Nat.{ℕ, _+_}
+use native.Mathlib.Omega.{arith}
+use lib.ListN.{take}
+use lib.Seq.{length-take-le}
+use Rattle.orders.specs.Orders.{ordersOf}
+use Rattle.state.specs.Model.{gateway}
+use Rattle.state.specs.Open.{openCall}
+use Rattle.fitting.specs.Fitting.{mostItems}
+use Rattle.answering.specs.Store.{repliedOf}
+use Rattle.answering.proofs.Store.{table-length, cut}
 use borrow.Author.Needs.{needs}
 use Rattle.answering.proofs.open_phase.Statement.{statement}
 use Rattle.answering.proofs.open_phase.Tie as tie
 
-slice-aggregate-open : tie.Need-slice-aggregate-open
-slice-aggregate-open c = sym (table-length (c .before .before .pre))
+add-prices-end : tie.Need-add-prices-end
+add-prices-end c = search needs
 
-open-requires : tie.Need-open-requires
-open-requires c κs = search needs
+mul-workers : tie.Need-mul-workers
+mul-workers c = search needs
+
+add-workers-end : tie.Need-add-workers-end
+add-workers-end c = search needs
+
+slice-aggregate-open-parallel : tie.Need-slice-aggregate-open-parallel
+slice-aggregate-open-parallel c = sym (table-length (c .before .before .before .pre .0))
+
+slice-aggregate-open-parallel-2 : tie.Need-slice-aggregate-open-parallel-2
+slice-aggregate-open-parallel-2 c = let h = c .before .before .before .before .pre in sym (length-take-le _ _ (omega (arith, h .1 .0, h .1 .1)))
+
+mul-open-parallel : tie.Need-mul-open-parallel
+mul-open-parallel c = search needs
+
+sub-open-parallel : tie.Need-sub-open-parallel
+sub-open-parallel c = search needs
+
+part-open-parallel-start : tie.Need-part-open-parallel-start
+part-open-parallel-start c = search needs
+
+part-open-parallel-end : tie.Need-part-open-parallel-end
+part-open-parallel-end c = search needs
+
+mul-open-parallel-2 : tie.Need-mul-open-parallel-2
+mul-open-parallel-2 c = search needs
+
+sub-open-parallel-2 : tie.Need-sub-open-parallel-2
+sub-open-parallel-2 c = search needs
+
+part-open-parallel-start-2 : tie.Need-part-open-parallel-start-2
+part-open-parallel-start-2 c = search needs
+
+part-open-parallel-end-2 : tie.Need-part-open-parallel-end-2
+part-open-parallel-end-2 c = search needs
+
+open-parallel-requires : tie.Need-open-parallel-requires
+open-parallel-requires c κs = search needs
 
 tell-requires : tie.Need-tell-requires
 tell-requires c κs = search needs
 
 returns : tie.Need-returns
-returns c = let a = c .before .before .before .before .before .args in opened (a .replay) (a .cells .now) (c .before .before .before .before .before .pre) (a .kind)
-    (a .count) _ _ (c .before .before .«open» .ensures) (c .tell .ensures)
+returns c =
+    let a = c .before .before .before .before .before .before .before .before .before .args in
+    let r = a .replay in
+    let t = take (r .length) (a .cells .now) in
+    let xs = a .items .now in
+    let opened = c .before .before .open-parallel .ensures
+    ∙ ap₂ (λ (ps : List ℕ) (ws : List ℕ). openCall gateway (a .kind) (a .crew) t (ordersOf (take (r .items) xs) ps ws)) (cut mostItems (r .items) xs)
+    (cut (mostItems + mostItems) (r .items) xs) in
+    c .tell .ensures ∙ ap (repliedOf (r .length) (r .items)) opened
 
 pub open-phase-spec : {M : Type 1} → statement M
-open-phase-spec = tie.close (tie.spec slice-aggregate-open open-requires tell-requires returns)
+open-phase-spec =
+    tie.close
+    (tie.spec
+    add-prices-end
+    mul-workers
+    add-workers-end
+    slice-aggregate-open-parallel
+    slice-aggregate-open-parallel-2
+    mul-open-parallel
+    sub-open-parallel
+    part-open-parallel-start
+    part-open-parallel-end
+    mul-open-parallel-2
+    sub-open-parallel-2
+    part-open-parallel-start-2
+    part-open-parallel-end-2
+    open-parallel-requires
+    tell-requires
+    returns)

@@ -1,5 +1,4 @@
 use mathlib.Core.Path.{sym}
-use Prim.Native.Nat.{_-_}
 use Rattle.answering.proofs.Store.{table-length, runs}
 use borrow.Author.Needs.{needs}
 use Rattle.answering.proofs.run_out.Statement.{statement}
@@ -19,9 +18,8 @@ same-length c = search needs
 
 returns : tie.Need-returns
 returns c =
-    let a = c .before .before .before .before .before .before .before .before .args in
-    runs (a .replay) (a .cells .now) (c .before .before .before .before .before .before .before .before .pre .0) _ _ (c .before .before .before .before .run .ensures .0)
-    (c .before .before .before .before .run .kept .1 .0)
+    let r = c .before .before .before .before .run in
+    runs (c .before .before .before .before .before .before .before .before .pre .0) _ _ (r .ensures .0) (r .kept .1 .0)
 
 pub run-out-spec : {M : Type 1} → statement M
 run-out-spec =

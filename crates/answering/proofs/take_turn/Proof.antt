@@ -1,5 +1,4 @@
 use mathlib.Core.Path.{sym}
-use Prim.Native.Nat.{_-_}
 use Rattle.answering.proofs.Store.{table-length, turns}
 use borrow.Author.Needs.{needs}
 use Rattle.answering.proofs.take_turn.Statement.{statement}
@@ -22,9 +21,9 @@ same-length c = search needs
 
 returns : tie.Need-returns
 returns c =
-    let a = c .before .before .before .before .before .before .before .before .args in
-    turns (a .replay) (a .cells .now) (c .before .before .before .before .before .before .before .before .pre) (a .worker) _ _ _
-    (c .before .before .before .before .turn .ensures) (c .before .before .before .before .turn .kept .1 .0) (c .tell .ensures)
+    let b = c .before .before .before .before .before .before .before .before in
+    let r = c .before .before .before .before .turn in
+    turns (b .pre) (b .args .worker) _ _ _ (r .ensures) (r .kept .1 .0) (c .tell .ensures)
 
 pub take-turn-spec : {M : Type 1} → statement M
 take-turn-spec =

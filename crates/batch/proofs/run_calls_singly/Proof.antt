@@ -3,8 +3,8 @@ use borrow.Author.Needs.{needs}
 use Rattle.batch.proofs.run_calls_singly.Statement.{statement}
 use Rattle.batch.proofs.run_calls_singly.Tie as tie
 
-open-requires : tie.Need-open-requires
-open-requires c κs = search needs
+open-parallel-requires : tie.Need-open-parallel-requires
+open-parallel-requires c κs = search needs
 
 enum-told : tie.Need-enum-told
 enum-told c = search needs
@@ -23,8 +23,8 @@ same-length-2 c = search needs
 
 returns : tie.Need-returns
 returns c =
-    let o = c .before .before .before .before .before .before .before .before .before .before .«open» in
-    accepted-kept _ _ _ _ _ _ _ _ (o .result) (o .ensures) _ _ _ (c .before .before .before .before .before .before .before .enum-told .given .1)
+    let o = c .before .before .before .before .before .before .before .before .before .before .open-parallel in
+    accepted-kept _ _ _ _ _ _ _ _ _ (o .result) (o .ensures) _ _ _ (c .before .before .before .before .before .before .before .enum-told .given .1)
     (c .before .before .before .before .run-singly .ensures)
 
 same-length-3 : tie.Need-same-length-3
@@ -32,13 +32,13 @@ same-length-3 c = search needs
 
 returns-2 : tie.Need-returns-2
 returns-2 c =
-    let o = c .before .before .before .before .«open» in refused-kept _ _ _ _ _ _ _ _ (o .result) (o .ensures) _ (c .before .reply .given .1)
+    let o = c .before .before .before .before .open-parallel in refused-kept _ _ _ _ _ _ _ _ _ (o .result) (o .ensures) _ (c .before .reply .given .1)
 
 pub run-calls-singly-spec : {M : Type 1} → statement M
 run-calls-singly-spec =
     tie.close
     (tie.spec
-    open-requires
+    open-parallel-requires
     enum-told
     run-singly-requires
     enum-known-reply

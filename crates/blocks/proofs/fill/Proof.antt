@@ -6,6 +6,8 @@ use native.Mathlib.Omega.{arith}
 use lib.ListN.{length}
 use borrow.Author.Needs.{needs}
 use Rattle.state.specs.declared.Phase.{Phase}
+use Rattle.orders.specs.Orders.{keptOrders}
+use Rattle.fitting.specs.Fitting.{mostItems}
 use Rattle.fitting.specs.declared.Aim.{Aim}
 use Rattle.fitting.proofs.Fitting.{Aimed, aimed}
 use Rattle.answering.proofs.One.{few-crew, some-cells, good-worker, order-line, turn-line}
@@ -17,22 +19,24 @@ use Rattle.blocks.proofs.fill.Statement.{statement}
 use Rattle.blocks.proofs.fill.Tie as tie
 
 -- the locals of the loop, as they are carried on
-abbrev carry : Phase → ℕ → ℕ → ℕ → Carried
-carry phase size number len = record { replay = record { phase = phase; length = size }; number = number; len = len; ended = false }
+abbrev carry : Phase → (size count number len : ℕ) → Carried
+carry phase size count number len =
+    record { replay = record { phase = phase; length = size; items = count }; number = number; len = len; ended = false }
 
 abbrev Inv-loop : tie.InvT-loop
-Inv-loop block line₀ cells₀ out₀ phase₀ size₀ number₀ len₀ at₀ from₀ line cells out phase size number len at from =
-    Filling (keptOf (carry phase₀ size₀ number₀ len₀) line₀ cells₀) block line cells out (carry phase size number len) from at × Same line₀ cells₀ out₀ line cells out
+Inv-loop block line₀ cells₀ items₀ out₀ phase₀ size₀ count₀ number₀ len₀ at₀ from₀ line cells items out phase size count number len at from =
+    Filling (keptOf (carry phase₀ size₀ count₀ number₀ len₀) line₀ cells₀ items₀) block line cells items out (carry phase size count number len) from at
+    × Same line₀ cells₀ items₀ out₀ line cells items out
 
 abbrev μ-loop : tie.MeasureT-loop
-μ-loop block line₀ cells₀ out₀ phase₀ size₀ number₀ len₀ at₀ from₀ line cells out phase size number len at from = length block - from
+μ-loop block line₀ cells₀ items₀ out₀ phase₀ size₀ count₀ number₀ len₀ at₀ from₀ line cells items out phase size count number len at from = length block - from
 
 abbrev entry : tie.At-loop Inv-loop μ-loop → tie.Start Inv-loop μ-loop
-entry c = c .before .before .before .before .before .before .before
+entry c = c .before .before .before .before .before .before .before .before
 
 loop-holds : tie.Need-loop-holds Inv-loop μ-loop
 loop-holds c =
-    let s = c .before .before .before .before .before .before in
+    let s = c .before .before .before .before .before .before .before in
     let fit = s .pre .0 in (
       filling-none
           (record {
@@ -55,7 +59,10 @@ same-length-2 : tie.Need-same-length-2 Inv-loop μ-loop
 same-length-2 c = c .before .before .loop .inv .1 .same-cells
 
 same-length-3 : tie.Need-same-length-3 Inv-loop μ-loop
-same-length-3 c = c .before .before .loop .inv .1 .same-out
+same-length-3 c = c .before .before .loop .inv .1 .same-items
+
+same-length-4 : tie.Need-same-length-4 Inv-loop μ-loop
+same-length-4 c = c .before .before .loop .inv .1 .same-out
 
 returns : tie.Need-returns Inv-loop μ-loop
 returns c = rw (entry (c .before .before) .pre .0 .goes) (no-room (c .before .before .loop .inv .0) (c .if1 .taken))
@@ -73,8 +80,7 @@ byte-at-requires : tie.Need-byte-at-requires Inv-loop μ-loop
 byte-at-requires c κs = search needs
 
 add-end : tie.Need-add-end Inv-loop μ-loop
-add-end c =
-    omega (arith, end-within (c .before .before .before .before .loop .inv .0 .behind) (c .byte-at .ensures))
+add-end c = omega (arith, end-within (c .before .before .before .before .loop .inv .0 .behind) (c .byte-at .ensures))
 
 sub-gather : tie.Need-sub-gather Inv-loop μ-loop
 sub-gather c = search needs
@@ -90,14 +96,18 @@ gather-requires c κs =
     let v = c .before .before .before .before .before .before .before .loop .inv .0 .behind in
     (v .held .gathered, v .line-long)
 
-same-length-4 : tie.Need-same-length-4 Inv-loop μ-loop
-same-length-4 c = c .before .before .gather .kept .1 .0 ∙ c .before .before .before .before .before .before .before .before .before .before .loop .inv .1 .same-line
-
 same-length-5 : tie.Need-same-length-5 Inv-loop μ-loop
-same-length-5 c = c .before .before .before .before .before .before .before .before .before .before .loop .inv .1 .same-cells
+same-length-5 c =
+    c .before .before .gather .kept .1 .0 ∙ c .before .before .before .before .before .before .before .before .before .before .loop .inv .1 .same-line
 
 same-length-6 : tie.Need-same-length-6 Inv-loop μ-loop
-same-length-6 c = c .before .before .before .before .before .before .before .before .before .before .loop .inv .1 .same-out
+same-length-6 c = c .before .before .before .before .before .before .before .before .before .before .loop .inv .1 .same-cells
+
+same-length-7 : tie.Need-same-length-7 Inv-loop μ-loop
+same-length-7 c = c .before .before .before .before .before .before .before .before .before .before .loop .inv .1 .same-items
+
+same-length-8 : tie.Need-same-length-8 Inv-loop μ-loop
+same-length-8 c = c .before .before .before .before .before .before .before .before .before .before .loop .inv .1 .same-out
 
 returns-2 : tie.Need-returns-2 Inv-loop μ-loop
 returns-2 c =
@@ -128,30 +138,33 @@ add-from : tie.Need-add-from Inv-loop μ-loop
 add-from c = search needs
 
 aim-of-requires : tie.Need-aim-of-requires Inv-loop μ-loop
-aim-of-requires c κs = search needs
+aim-of-requires c κs = c .before .before .before .before .before .before .before .before .before .before .before .loop .inv .0 .behind .held .ready .kept
 
 -- ---- a line that ends in the block
 -- the loop's head before it
 abbrev head : tie.After-aim-of Inv-loop μ-loop → tie.At-loop Inv-loop μ-loop
-head c = c .before .before .before .before .before .before .before .before .before .before .before
+head c = c .before .before .before .before .before .before .before .before .before .before .before .before
 
 whose : (c : tie.After-aim-of Inv-loop μ-loop) {a : Aim} → c .aim-of .result ≡ a
-    → Aimed (head c .loop .phase .kind) (head c .loop .phase .shut) (c .before .before .before .read-end .result) (head c .loop .phase .crew) a
+    → Aimed (head c .loop .phase .kind) (head c .loop .phase .shut) (c .before .before .before .before .read-end .result) (head c .loop .phase .crew)
+    (keptOrders mostItems (head c .loop .count) (head c .loop .items)) a
 whose c e =
-    aimed (head c .loop .phase .kind) (head c .loop .phase .shut) (c .before .before .before .read-end .result) (head c .loop .phase .crew) (sym e ∙ c .aim-of .ensures)
+    let v = head c .loop in
+    aimed (v .phase .kind) (v .phase .shut) (c .before .before .before .before .read-end .result) (v .phase .crew) (keptOrders mostItems (v .count) (v .items))
+    (sym e ∙ c .aim-of .ensures)
 
 room : (c : tie.After-aim-of Inv-loop μ-loop) → head c .loop .at + longestAnswer ≤ length (head c .loop .out)
-room c = omega (arith, c .before .before .before .before .before .before .before .before .before .if1 .left, head c .loop .inv .0 .room)
+room c = omega (arith, c .before .before .before .before .before .before .before .before .before .before .if1 .left, head c .loop .inv .0 .room)
 
 -- the newline that ends it
 abbrev newline : tie.After-aim-of Inv-loop μ-loop → tie.After-byte-at Inv-loop μ-loop
-newline c = c .before .before .before .before .before .before .before
+newline c = c .before .before .before .before .before .before .before .before
 
 abbrev found : tie.After-aim-of Inv-loop μ-loop → tie.Else2 Inv-loop μ-loop
-found c = c .before .before .before .before .before .before
+found c = c .before .before .before .before .before .before .before
 
 inside : (c : tie.After-aim-of Inv-loop μ-loop) → head c .loop .from < length (entry (head c) .args .block .now)
-inside c = c .before .before .before .before .before .before .before .before .before .before .loop-test .taken
+inside c = c .before .before .before .before .before .before .before .before .before .before .before .loop-test .taken
 
 enum-known-aim : tie.Need-enum-known-aim Inv-loop μ-loop
 enum-known-aim c = search needs
@@ -166,13 +179,13 @@ element-copy-out-answer-order : tie.Need-element-copy-out-answer-order Inv-loop 
 element-copy-out-answer-order c =
     let v = head (c .before .before .before) .loop .inv .0 .behind in
     let to = whose (c .before .before .before) (c .before .aim .given .1) in
-    omega (arith, few-crew _ _ (v .held .ready) (to .0 .up), to .0 .below)
+    omega (arith, few-crew _ _ _ (v .held .ready) (to .0 .up), to .0 .below)
 
 answer-order-requires : tie.Need-answer-order-requires Inv-loop μ-loop
 answer-order-requires c κs =
     let x = c .before .before .before .before .before in
     let to = whose x (c .before .before .before .aim .given .1) in
-    (some-cells _ _ (head x .loop .inv .0 .behind .held .ready) (to .0 .up), room x)
+    (some-cells _ _ _ (head x .loop .inv .0 .behind .held .ready) (to .0 .up), room x)
 
 mul-next : tie.Need-mul-next Inv-loop μ-loop
 mul-next c = search needs
@@ -181,7 +194,7 @@ element-set-from-next : tie.Need-element-set-from-next Inv-loop μ-loop
 element-set-from-next c =
     let x = c .before .before .before .before .before .before .before .before .before in
     let to = whose x (c .before .before .before .before .before .before .before .aim .given .1) in
-    omega (arith, few-crew _ _ (head x .loop .inv .0 .behind .held .ready) (to .0 .up), to .0 .below)
+    omega (arith, few-crew _ _ _ (head x .loop .inv .0 .behind .held .ready) (to .0 .up), to .0 .below)
 
 loop-less : tie.Need-loop-less Inv-loop μ-loop
 loop-less c = omega (arith, found (c .before .before .before .before .before .before .before .before .before) .if2 .left)
@@ -191,13 +204,13 @@ loop-again c =
     let x = c .before .before .before .before .before .before .before .before .before in
     let v = head x .loop in
     let to = whose x (c .before .before .before .before .before .before .before .aim .given .1) in
-    let read = x .before .before .before .read-end in
+    let read = x .before .before .before .before .read-end in
     let r = c .before .before .before .answer-order in
     let a = order-line (v .inv .0 .behind .held .ready) to (r .ensures) in
     let line = read .kept .1 .0 in
-    let out = r .kept .1 .1 .1 .1 .1 .1 .1 .0 in (
+    let out = r .kept .1 .1 .1 .1 .1 .1 .0 in (
       next-line (v .inv .0) (inside x) (newline x .byte-at .ensures) (found x .if2 .left) (room x) (read .ensures) a _ line out refl,
-      same-on (v .inv .1) line refl out,
+      same-on (v .inv .1) line refl refl out,
     )
 
 enum-known-aim-2 : tie.Need-enum-known-aim-2 Inv-loop μ-loop
@@ -213,14 +226,14 @@ element-copy-out-answer-turn : tie.Need-element-copy-out-answer-turn Inv-loop μ
 element-copy-out-answer-turn c =
     let v = head (c .before .before .before) .loop .inv .0 .behind in
     let to = whose (c .before .before .before) (c .before .aim2 .given .1) in
-    omega (arith, few-crew _ _ (v .held .ready) (to .up), to .below)
+    omega (arith, few-crew _ _ _ (v .held .ready) (to .0 .up), to .0 .below)
 
 answer-turn-requires : tie.Need-answer-turn-requires Inv-loop μ-loop
 answer-turn-requires c κs =
     let x = c .before .before .before .before .before .before in
     let ready = head x .loop .inv .0 .behind .held .ready in
     let to = whose x (c .before .before .before .before .aim2 .given .1) in
-    let good = good-worker _ _ ready (to .up) _ (to .below) in
+    let good = good-worker _ _ _ ready (to .0 .up) _ (to .0 .below) in
     (good .0, (good .1, (omega (arith, ready .roomy .fits, ready .roomy .most), room x)))
 
 mul-next-2 : tie.Need-mul-next-2 Inv-loop μ-loop
@@ -230,7 +243,7 @@ element-set-from-next-2 : tie.Need-element-set-from-next-2 Inv-loop μ-loop
 element-set-from-next-2 c =
     let x = c .before .before .before .before .before .before .before .before .before .before .before .before in
     let to = whose x (c .before .before .before .before .before .before .before .before .before .before .aim2 .given .1) in
-    omega (arith, few-crew _ _ (head x .loop .inv .0 .behind .held .ready) (to .up), to .below)
+    omega (arith, few-crew _ _ _ (head x .loop .inv .0 .behind .held .ready) (to .0 .up), to .0 .below)
 
 loop-less-2 : tie.Need-loop-less-2 Inv-loop μ-loop
 loop-less-2 c = omega (arith, found (c .before .before .before .before .before .before .before .before .before .before .before .before) .if2 .left)
@@ -240,14 +253,14 @@ loop-again-2 c =
     let x = c .before .before .before .before .before .before .before .before .before .before .before .before in
     let v = head x .loop in
     let to = whose x (c .before .before .before .before .before .before .before .before .before .before .aim2 .given .1) in
-    let read = x .before .before .before .read-end in
+    let read = x .before .before .before .before .read-end in
     let r = c .before .before .before .before .before .answer-turn in
     let a = turn-line (v .inv .0 .behind .held .ready) to (r .ensures) in
     let line = read .kept .1 .0 in
     let cells = r .kept .1 .1 .1 .1 .0 in
     let out = r .kept .1 .1 .1 .1 .1 .1 .0 in (
       next-line (v .inv .0) (inside x) (newline x .byte-at .ensures) (found x .if2 .left) (room x) (read .ensures) a _ line out refl,
-      same-on (v .inv .1) line cells out,
+      same-on (v .inv .1) line cells refl out,
     )
 
 enum-told : tie.Need-enum-told Inv-loop μ-loop
@@ -255,55 +268,66 @@ enum-told c = search needs
 
 answer-requires : tie.Need-answer-requires Inv-loop μ-loop
 answer-requires c κs =
-    let x = c .before .before .before .before in
+    let x = c .before .before .before .before .before in
     (head x .loop .inv .0 .behind .held .ready, room x)
-
-same-length-7 : tie.Need-same-length-7 Inv-loop μ-loop
-same-length-7 c =
-    let x = c .before .before .before .before .before .before .before .before .before .before .before in
-    x .before .before .before .read-end .kept .1 .0 ∙ head x .loop .inv .1 .same-line
-
-same-length-8 : tie.Need-same-length-8 Inv-loop μ-loop
-same-length-8 c =
-    c .before .before .before .before .before .before .answer .kept .1 .1 .1 .0
-    ∙ head (c .before .before .before .before .before .before .before .before .before .before .before) .loop .inv .1 .same-cells
 
 same-length-9 : tie.Need-same-length-9 Inv-loop μ-loop
 same-length-9 c =
-    c .before .before .before .before .before .before .answer .kept .1 .1 .1 .1 .0
-    ∙ head (c .before .before .before .before .before .before .before .before .before .before .before) .loop .inv .1 .same-out
+    let x = c .before .before .before .before .before .before .before .before .before .before .before .before .before .before in
+    x .before .before .before .before .read-end .kept .1 .0 ∙ head x .loop .inv .1 .same-line
+
+same-length-10 : tie.Need-same-length-10 Inv-loop μ-loop
+same-length-10 c =
+    let r = c .before .before .before .before .before .before .before .before in
+    r .answer .kept .1 .1 .1 .0 ∙ head (r .before .before .before .before .before .before) .loop .inv .1 .same-cells
+
+same-length-11 : tie.Need-same-length-11 Inv-loop μ-loop
+same-length-11 c =
+    let r = c .before .before .before .before .before .before .before .before in
+    r .answer .kept .1 .1 .1 .1 .0 ∙ head (r .before .before .before .before .before .before) .loop .inv .1 .same-items
+
+same-length-12 : tie.Need-same-length-12 Inv-loop μ-loop
+same-length-12 c =
+    let r = c .before .before .before .before .before .before .before .before in
+    r .answer .kept .1 .1 .1 .1 .1 .0 ∙ head (r .before .before .before .before .before .before) .loop .inv .1 .same-out
 
 returns-3 : tie.Need-returns-3 Inv-loop μ-loop
 returns-3 c =
-    let x = c .before .before .before .before .before .before .before .before .before .before .before in
+    let x = c .before .before .before .before .before .before .before .before .before .before .before .before .before .before in
     rw (entry (head x) .pre .0 .goes)
-    (ended-line (head x .loop .inv .0) (inside x) (newline x .byte-at .ensures) (found x .if2 .left) (room x) (x .before .before .before .read-end .ensures)
-    (c .before .before .before .before .before .before .answer .ensures) _ (c .if3 .taken))
+    (ended-line (head x .loop .inv .0) (inside x) (newline x .byte-at .ensures) (found x .if2 .left) (room x)
+    (x .before .before .before .before .read-end .ensures) (c .before .before .before .before .before .before .before .before .answer .ensures) _ (c .if3 .taken))
 
 loop-less-3 : tie.Need-loop-less-3 Inv-loop μ-loop
-loop-less-3 c = omega (arith, found (c .before .before .before .before .before .before .before .before .before .before .before .before) .if2 .left)
+loop-less-3 c =
+    let x = c .before .before .before .before .before .before .before .before .before .before .before .before .before .before .before in
+    omega (arith, found x .if2 .left)
 
 loop-again-3 : tie.Need-loop-again-3 Inv-loop μ-loop
 loop-again-3 c =
-    let x = c .before .before .before .before .before .before .before .before .before .before .before .before in
+    let x = c .before .before .before .before .before .before .before .before .before .before .before .before .before .before .before in
     let v = head x .loop in
-    let read = x .before .before .before .read-end in
-    let r = c .before .before .before .before .before .before .before .answer in
+    let read = x .before .before .before .before .read-end in
+    let r = c .before .before .before .before .before .before .before .before .before .answer in
     let line = read .kept .1 .0 in
     let cells = r .kept .1 .1 .1 .0 in
-    let out = r .kept .1 .1 .1 .1 .0 in (
+    let items = r .kept .1 .1 .1 .1 .0 in
+    let out = r .kept .1 .1 .1 .1 .1 .0 in (
       next-line (v .inv .0) (inside x) (newline x .byte-at .ensures) (found x .if2 .left) (room x) (read .ensures) (r .ensures) _ line out (c .before .if3 .left),
-      same-on (v .inv .1) line cells out,
+      same-on (v .inv .1) line cells items out,
     )
 
-same-length-10 : tie.Need-same-length-10 Inv-loop μ-loop
-same-length-10 c = c .before .loop .inv .1 .same-line
+same-length-13 : tie.Need-same-length-13 Inv-loop μ-loop
+same-length-13 c = c .before .loop .inv .1 .same-line
 
-same-length-11 : tie.Need-same-length-11 Inv-loop μ-loop
-same-length-11 c = c .before .loop .inv .1 .same-cells
+same-length-14 : tie.Need-same-length-14 Inv-loop μ-loop
+same-length-14 c = c .before .loop .inv .1 .same-cells
 
-same-length-12 : tie.Need-same-length-12 Inv-loop μ-loop
-same-length-12 c = c .before .loop .inv .1 .same-out
+same-length-15 : tie.Need-same-length-15 Inv-loop μ-loop
+same-length-15 c = c .before .loop .inv .1 .same-items
+
+same-length-16 : tie.Need-same-length-16 Inv-loop μ-loop
+same-length-16 c = c .before .loop .inv .1 .same-out
 
 returns-4 : tie.Need-returns-4 Inv-loop μ-loop
 returns-4 c =
@@ -321,6 +345,7 @@ fill-spec =
     same-length
     same-length-2
     same-length-3
+    same-length-4
     returns
     sub-byte-at
     part-byte-at-start
@@ -331,9 +356,10 @@ fill-spec =
     part-gather-start
     part-gather-end
     gather-requires
-    same-length-4
     same-length-5
     same-length-6
+    same-length-7
+    same-length-8
     returns-2
     add-number
     sub-read-end
@@ -362,13 +388,15 @@ fill-spec =
     loop-again-2
     enum-told
     answer-requires
-    same-length-7
-    same-length-8
     same-length-9
-    returns-3
-    loop-less-3
-    loop-again-3
     same-length-10
     same-length-11
     same-length-12
+    returns-3
+    loop-less-3
+    loop-again-3
+    same-length-13
+    same-length-14
+    same-length-15
+    same-length-16
     returns-4)

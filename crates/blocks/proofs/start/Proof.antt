@@ -2,6 +2,7 @@ use mathlib.Core.Path.{_≡_, ap}
 use mathlib.Core.Bool.{false}
 use native.Mathlib.Omega.{arith}
 use borrow.Author.Needs.{needs}
+use Rattle.orders.specs.Orders.{ordersOf}
 use Rattle.sheet.specs.Replay.{blank}
 use Rattle.answering.specs.Store.{replayOf}
 use Rattle.answering.specs.declared.Replay.{Replay}
@@ -11,10 +12,11 @@ use Rattle.blocks.proofs.start.Statement.{statement}
 use Rattle.blocks.proofs.start.Tie as tie
 
 begins : {replay : Replay} → replay ≡ replayOf blank → Begins (record { replay = replay; number = 0; len = 0; ended = false })
+unfolding ordersOf
 begins e =
     record {
-      kept = λ line cells. ap (λ (r : Replay). keptOf (record { replay = r; number = 0; len = 0; ended = false }) line cells) e;
-      held = λ cells l. record { ready = blank-ready _ cells e l; gathered = omega arith };
+      kept = λ line cells items. ap (λ (r : Replay). keptOf (record { replay = r; number = 0; len = 0; ended = false }) line cells items) e;
+      held = λ cells items l m. record { ready = blank-ready _ cells items e l m; gathered = omega arith };
     }
 
 start-requires : tie.Need-start-requires

@@ -17,25 +17,22 @@ home-requires c κs = search needs
 entry-for-requires : tie.Need-entry-for-requires
 entry-for-requires c κs = search needs
 
-left-after-requires : tie.Need-left-after-requires
-left-after-requires c κs = search needs
-
 enum-known-reply : tie.Need-enum-known-reply
 enum-known-reply c = search needs
 
 returns : tie.Need-returns
 returns c =
-    let told = c .before .before .before in
+    let told = c .before .before in
     let b = told .before .before in
     let a = b .before .args in
-    one-taken gateway (a .kind) (a .length) (a .left) (a .worker) (a .key) (a .price) (b .one-reply .ensures) (told .enum-told .given .1) (omega arith) _ _ _
-    (c .left-after .ensures) (c .before .entry-for .ensures) (c .before .before .home .ensures)
+    one-taken gateway (a .kind) (a .length) (a .worker) (a .key) (a .price) (b .one-reply .ensures) (told .enum-told .given .1) (omega arith) _ _
+    (c .entry-for .ensures) (c .before .home .ensures)
 
 returns-2 : tie.Need-returns-2
 returns-2 c =
     let b = c .before .before .before in
     let a = b .before .args in
-    one-refused gateway (a .kind) (a .length) (a .left) (a .worker) (a .key) (a .price) _ (b .one-reply .ensures) (c .before .reply .given .1)
+    one-refused gateway (a .kind) (a .length) (a .worker) (a .key) (a .price) _ (b .one-reply .ensures) (c .before .reply .given .1)
 
 pub one-order-spec : {M : Type 1} → statement M
 one-order-spec =
@@ -45,7 +42,6 @@ one-order-spec =
     enum-told
     home-requires
     entry-for-requires
-    left-after-requires
     enum-known-reply
     returns
     returns-2)

@@ -25,27 +25,13 @@ returns-3 c =
       sym (c .before .is-mispriced .ensures) ∙ c .if3 .taken,
     )
 
-is-full-requires : tie.Need-is-full-requires
-is-full-requires c κs = search needs
-
 returns-4 : tie.Need-returns-4
 returns-4 c =
-    let b = c .before .before .before .before .before in
+    let b = c .before .before .before in
     simp (
       sym (b .before .is-idle .ensures) ∙ not-false _ (b .if1 .left),
-      ne-eqb _ _ (c .before .before .before .before .if2 .left),
-      sym (c .before .before .before .is-mispriced .ensures) ∙ c .before .before .if3 .left,
-      sym (c .before .is-full .ensures) ∙ c .if4 .taken,
-    )
-
-returns-5 : tie.Need-returns-5
-returns-5 c =
-    let b = c .before .before .before .before .before in
-    simp (
-      sym (b .before .is-idle .ensures) ∙ not-false _ (b .if1 .left),
-      ne-eqb _ _ (c .before .before .before .before .if2 .left),
-      sym (c .before .before .before .is-mispriced .ensures) ∙ c .before .before .if3 .left,
-      sym (c .before .is-full .ensures) ∙ c .if4 .left,
+      ne-eqb _ _ (c .before .before .if2 .left),
+      sym (c .before .is-mispriced .ensures) ∙ c .if3 .left,
     )
 
 pub one-reply-spec : {M : Type 1} → statement M
@@ -57,6 +43,4 @@ one-reply-spec =
     returns-2
     is-mispriced-requires
     returns-3
-    is-full-requires
-    returns-4
-    returns-5)
+    returns-4)

@@ -51,7 +51,7 @@ returns c =
 
 loop2-holds : tie.Need-loop2-holds Inv-loop2 μ-loop2 Inv-loop μ-loop
 loop2-holds c = let v = c .before .before .before .loop .inv in
-    (lap-starts gateway gateway-proper _ _ (reached gateway gateway-proper _ _ _ (v .0)) (v .0 .opened .running) (v .1 .0), refl)
+    (lap-starts gateway gateway-proper _ _ (v .0 .list) (reached gateway gateway-proper _ _ _ (v .0)) (v .0 .opened .running) (v .1 .0), refl)
 
 loop-less : tie.Need-loop-less Inv-loop2 μ-loop2 Inv-loop μ-loop
 loop-less c =

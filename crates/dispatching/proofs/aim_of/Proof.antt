@@ -1,6 +1,9 @@
--- Each answer is the row's, with the worker's number tested.
+-- Each answer is the row's.
 use mathlib.Core.Path.{refl}
-use Rattle.fitting.proofs.Fitting.{aims-none, aims, to-order, to-turn, no-order, no-turn}
+use Rattle.fitting.specs.Fitting.{mostItems}
+use Rattle.orders.specs.Orders.{keptOrders}
+use Rattle.fitting.proofs.Fitting.{to-order, aims-none, aims}
+use Rattle.dispatching.proofs.Items.{so-many}
 use borrow.Author.Needs.{needs}
 use Rattle.dispatching.proofs.aim_of.Statement.{statement}
 use Rattle.dispatching.proofs.aim_of.Tie as tie
@@ -16,69 +19,67 @@ fits-row-requires c κs = search needs
 
 returns-2 : tie.Need-returns-2
 returns-2 c =
-    let a = c .before .before .before .before .before .args in
-    aims-none (a .kind) (a .line) (a .crew) (c .before .before .before .before .if1 .left) (c .before .before .row-of .ensures) (c .before .fits-row .ensures) (c .if2 .taken)
+    let y = c .before in
+    let x = y .before .before .before .before .before in
+    let a = x .args in
+    aims-none (a .kind) (a .line) (a .crew) (keptOrders mostItems (a .count) (a .items .now)) (y .before .before .before .if1 .left)
+    (so-many mostItems (a .count) (a .items .now) (x .pre .0) (x .pre .1)) (y .before .row-of .ensures) (y .fits-row .ensures) (c .if2 .taken)
 
 enum-told : tie.Need-enum-told
 enum-told c = search needs
 
-array-read-if3 : tie.Need-array-read-if3
-array-read-if3 c = search needs
+array-read-order-named : tie.Need-array-read-order-named
+array-read-order-named c = search needs
 
-array-read-t19 : tie.Need-array-read-t19
-array-read-t19 c = search needs
+array-read-order-named-2 : tie.Need-array-read-order-named-2
+array-read-order-named-2 c = search needs
 
-array-read-t22 : tie.Need-array-read-t22
-array-read-t22 c = search needs
+order-named-requires : tie.Need-order-named-requires
+order-named-requires c κs = search needs
 
-array-read-t25 : tie.Need-array-read-t25
-array-read-t25 c = search needs
-
-returns-3 : tie.Need-returns-3
-returns-3 c =
-    let x = c .before .before .before .before .before in
-    let a = x .before .before .before .before .args in
-    aims (a .kind) (a .line) (a .crew) (x .before .before .before .if1 .left) (x .before .row-of .ensures) (x .fits-row .ensures)
-    (c .before .before .before .before .if2 .left) (c .before .enum-told .given .1) (to-order (a .line .numbers .values) (a .crew) (c .if3 .taken))
+order-aim-requires : tie.Need-order-aim-requires
+order-aim-requires c κs = search needs
 
 enum-told-2 : tie.Need-enum-told-2
 enum-told-2 c = search needs
 
-array-read-if4 : tie.Need-array-read-if4
-array-read-if4 c = search needs
+array-read-turn-aim : tie.Need-array-read-turn-aim
+array-read-turn-aim c = search needs
 
-array-read-t32 : tie.Need-array-read-t32
-array-read-t32 c = search needs
-
-returns-4 : tie.Need-returns-4
-returns-4 c =
-    let x = c .before .before .before .before .before in
-    let a = x .before .before .before .before .args in
-    aims (a .kind) (a .line) (a .crew) (x .before .before .before .if1 .left) (x .before .row-of .ensures) (x .fits-row .ensures)
-    (c .before .before .before .before .if2 .left) (c .before .enum-told2 .given .1) (to-turn (a .line .numbers .values) (a .crew) (c .if4 .taken))
+turn-aim-requires : tie.Need-turn-aim-requires
+turn-aim-requires c κs = search needs
 
 enum-told-3 : tie.Need-enum-told-3
 enum-told-3 c = search needs
 
+returns-3 : tie.Need-returns-3
+returns-3 c =
+    let y = c .before .before .before .before .before .before in
+    let x = y .before .before .before .before .before in
+    let a = x .args in
+    aims (a .kind) (a .line) (a .crew) (keptOrders mostItems (a .count) (a .items .now)) (y .before .before .before .if1 .left)
+    (so-many mostItems (a .count) (a .items .now) (x .pre .0) (x .pre .1)) (y .before .row-of .ensures) (y .fits-row .ensures)
+    (c .before .before .before .before .before .if2 .left) (c .before .before .enum-told .given .1)
+    (to-order (a .kind) (a .line .numbers .values) (a .crew) (keptOrders mostItems (a .count) (a .items .now)) (c .before .order-named .ensures)
+    (c .order-aim .ensures))
+
+returns-4 : tie.Need-returns-4
+returns-4 c =
+    let y = c .before .before .before .before .before in
+    let x = y .before .before .before .before .before in
+    let a = x .args in
+    aims (a .kind) (a .line) (a .crew) (keptOrders mostItems (a .count) (a .items .now)) (y .before .before .before .if1 .left)
+    (so-many mostItems (a .count) (a .items .now) (x .pre .0) (x .pre .1)) (y .before .row-of .ensures) (y .fits-row .ensures)
+    (c .before .before .before .before .if2 .left) (c .before .enum-told2 .given .1) (c .turn-aim .ensures)
+
 returns-5 : tie.Need-returns-5
 returns-5 c =
-    let x = c .before .before .before .before .before in
-    let a = x .before .before .before .before .args in
-    aims (a .kind) (a .line) (a .crew) (x .before .before .before .if1 .left) (x .before .row-of .ensures) (x .fits-row .ensures)
-    (c .before .before .before .before .if2 .left) (c .before .enum-told .given .1) (no-order (a .line .numbers .values) (a .crew) (c .if3 .left))
-
-returns-6 : tie.Need-returns-6
-returns-6 c =
-    let x = c .before .before .before .before .before in
-    let a = x .before .before .before .before .args in
-    aims (a .kind) (a .line) (a .crew) (x .before .before .before .if1 .left) (x .before .row-of .ensures) (x .fits-row .ensures)
-    (c .before .before .before .before .if2 .left) (c .before .enum-told2 .given .1) (no-turn (a .line .numbers .values) (a .crew) (c .if4 .left))
-
-returns-7 : tie.Need-returns-7
-returns-7 c =
-    let x = c .before .before .before .before in
-    let a = x .before .before .before .before .args in
-    aims (a .kind) (a .line) (a .crew) (x .before .before .before .if1 .left) (x .before .row-of .ensures) (x .fits-row .ensures) (c .before .before .before .if2 .left) (c .enum-told3 .given .1) refl
+    let y = c .before .before .before .before in
+    let x = y .before .before .before .before .before in
+    let a = x .args in
+    aims (a .kind) (a .line) (a .crew) (keptOrders mostItems (a .count) (a .items .now)) (y .before .before .before .if1 .left)
+    (so-many mostItems (a .count) (a .items .now) (x .pre .0) (x .pre .1)) (y .before .row-of .ensures) (y .fits-row .ensures)
+    (c .before .before .before .if2 .left) (c .enum-told3 .given .1) refl
 
 pub aim-of-spec : {M : Type 1} → statement M
 aim-of-spec =
@@ -89,16 +90,14 @@ aim-of-spec =
     fits-row-requires
     returns-2
     enum-told
-    array-read-if3
-    array-read-t19
-    array-read-t22
-    array-read-t25
-    returns-3
+    array-read-order-named
+    array-read-order-named-2
+    order-named-requires
+    order-aim-requires
     enum-told-2
-    array-read-if4
-    array-read-t32
-    returns-4
+    array-read-turn-aim
+    turn-aim-requires
     enum-told-3
-    returns-5
-    returns-6
-    returns-7)
+    returns-3
+    returns-4
+    returns-5)

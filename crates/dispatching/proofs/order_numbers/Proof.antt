@@ -1,4 +1,4 @@
--- Three in a put-in shift, two in the others.
+-- One in a put-in shift, two in the others.
 use borrow.Author.Tests.{eq-eqb, ne-eqb}
 use Rattle.dispatching.proofs.order_numbers.Statement.{statement}
 use Rattle.dispatching.proofs.order_numbers.Tie as tie

@@ -19,8 +19,8 @@ handle-requires c κs = search needs
 returns : tie.Need-returns
 returns c =
     let a = c .before .before .before .before .before .args in
-    reading-row (a .kind) (a .shut) (a .line) (c .before .before .before .row-of .ensures) (c .before .before .handling-in .ensures) (c .before .fits-row .ensures)
-    (c .handle .ensures)
+    reading-row (a .kind) (a .items) (a .shut) (a .line) (c .before .before .before .row-of .ensures) (c .before .before .handling-in .ensures)
+    (c .before .fits-row .ensures) (c .handle .ensures)
 
 pub reading-in-spec : {M : Type 1} → statement M
 reading-in-spec =

@@ -1,8 +1,12 @@
-use mathlib.Core.Path.{sym, _∙_}
+use mathlib.Core.Bool.{Bool, true, false, cond}
+use mathlib.Core.Path.{_≡_, sym, _∙_}
 use borrow.Author.Needs.{needs}
 use borrow.Author.Tests.{not-true, not-false}
 use Rattle.formed.proofs.numbers_ok.Statement.{statement}
 use Rattle.formed.proofs.numbers_ok.Tie as tie
+
+both : (a b d : Bool) → a ≡ true → b ≡ true → d ≡ cond a (cond b d false) false
+both a b d e f = rw (e, f)
 
 kind-ok-requires : tie.Need-kind-ok-requires
 kind-ok-requires c κs = search needs
@@ -25,22 +29,10 @@ crew-ok-requires c κs = search needs
 
 returns-3 : tie.Need-returns-3
 returns-3 c =
-    let k = c .before .before .before .before .before in let s = c .before .before .before in
-    simp (
-      sym (k .kind-ok .ensures) ∙ not-false _ (c .before .before .before .before .if1 .left),
-      sym (s .size-ok .ensures) ∙ not-false _ (c .before .before .if2 .left),
-      sym (c .before .crew-ok .ensures) ∙ not-true _ (c .if3 .taken),
-    )
-
-returns-4 : tie.Need-returns-4
-returns-4 c =
-    let k = c .before .before .before .before .before in let s = c .before .before .before in
-    simp (
-      sym (k .kind-ok .ensures) ∙ not-false _ (c .before .before .before .before .if1 .left),
-      sym (s .size-ok .ensures) ∙ not-false _ (c .before .before .if2 .left),
-      sym (c .before .crew-ok .ensures) ∙ not-false _ (c .if3 .left),
-    )
+    c .crew-ok .ensures
+    ∙ both _ _ _ (sym (c .before .before .before .before .kind-ok .ensures) ∙ not-false _ (c .before .before .before .if1 .left))
+    (sym (c .before .before .size-ok .ensures) ∙ not-false _ (c .before .if2 .left))
 
 pub numbers-ok-spec : {M : Type 1} → statement M
 numbers-ok-spec =
-    tie.close (tie.spec kind-ok-requires returns size-ok-requires returns-2 crew-ok-requires returns-3 returns-4)
+    tie.close (tie.spec kind-ok-requires returns size-ok-requires returns-2 crew-ok-requires returns-3)

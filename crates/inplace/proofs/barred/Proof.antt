@@ -19,22 +19,8 @@ returns-3 : tie.Need-returns-3
 returns-3 c =
     simp (c .before .before .before .if1 .left, le-ltb _ _ (c .before .before .if2 .left), eq-eqb _ _ (c .before .if3 .taken), c .refusal-answer2 .ensures)
 
-refusal-answer-requires-3 : tie.Need-refusal-answer-requires-3
-refusal-answer-requires-3 c κs = search needs
-
 returns-4 : tie.Need-returns-4
-returns-4 c =
-    simp (
-      c .before .before .before .before .if1 .left,
-      le-ltb _ _ (c .before .before .before .if2 .left),
-      ne-eqb _ _ (c .before .before .if3 .left),
-      eq-eqb _ _ (c .before .if4 .taken),
-      c .refusal-answer3 .ensures,
-    )
-
-returns-5 : tie.Need-returns-5
-returns-5 c =
-    simp (c .before .before .before .if1 .left, le-ltb _ _ (c .before .before .if2 .left), ne-eqb _ _ (c .before .if3 .left), ne-eqb _ _ (c .if4 .left))
+returns-4 c = simp (c .before .before .if1 .left, le-ltb _ _ (c .before .if2 .left), ne-eqb _ _ (c .if3 .left))
 
 pub barred-spec : {M : Type 1} → statement M
 barred-spec =
@@ -45,6 +31,4 @@ barred-spec =
     returns-2
     refusal-answer-requires-2
     returns-3
-    refusal-answer-requires-3
-    returns-4
-    returns-5)
+    returns-4)

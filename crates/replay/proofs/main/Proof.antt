@@ -9,10 +9,10 @@ use Rattle.replay.proofs.main.Statement.{statement}
 use Rattle.replay.proofs.main.Tie as tie
 
 abbrev Inv-loop : tie.InvT-loop
-Inv-loop cells₀ block₀ out₀ line₀ carried₀ left₀ cells block out line carried left = Reading cells block out line carried left
+Inv-loop cells₀ items₀ block₀ out₀ line₀ carried₀ left₀ cells items block out line carried left = Reading cells items block out line carried left
 
 abbrev μ-loop : tie.MeasureT-loop
-μ-loop cells₀ block₀ out₀ line₀ carried₀ left₀ cells block out line carried left = left
+μ-loop cells₀ items₀ block₀ out₀ line₀ carried₀ left₀ cells items block out line carried left = left
 
 start-requires : tie.Need-start-requires Inv-loop μ-loop
 start-requires c κs = search needs
@@ -21,10 +21,11 @@ loop-holds : tie.Need-loop-holds Inv-loop μ-loop
 unfolding keptBytes longestLine
 loop-holds c =
     record {
-      held = c .start .ensures .held _ (search needs);
-      goes = ap (λ (k : Kept). k .ended) (c .start .ensures .kept [] []);
-      few = let e : c .start .result .number ≡ 0 = ap (λ (k : Kept). k .number) (c .start .ensures .kept [] []) in omega (arith, e);
+      held = c .start .ensures .held _ _ (search needs) (search needs);
+      goes = ap (λ (k : Kept). k .ended) (c .start .ensures .kept [] [] []);
+      few = let e : c .start .result .number ≡ 0 = ap (λ (k : Kept). k .number) (c .start .ensures .kept [] [] []) in omega (arith, e);
       cells-long = search needs;
+      items-long = search needs;
       block-long = search needs;
       out-long = search needs;
       line-long = search needs;
@@ -49,15 +50,18 @@ slice-aggregate-read-done-3 c = search needs
 slice-aggregate-read-done-4 : tie.Need-slice-aggregate-read-done-4 Inv-loop μ-loop
 slice-aggregate-read-done-4 c = search needs
 
+slice-aggregate-read-done-5 : tie.Need-slice-aggregate-read-done-5 Inv-loop μ-loop
+slice-aggregate-read-done-5 c = search needs
+
 read-done-requires : tie.Need-read-done-requires Inv-loop μ-loop
 read-done-requires c κs =
-    let v = c .before .before .before .before .before .before .before .before .loop .inv in
-    let l = c .before .before .before .before .before .read .kept .1 .0 in (
+    let v = c .before .before .before .before .before .before .before .before .before .loop .inv in
+    let l = c .before .before .before .before .before .before .read .kept .1 .0 in (
       record {
         held = v .held;
         goes = v .goes;
         line-long = omega (arith, v .line-long);
-        countable = omega (arith, v .few, v .block-long, l, c .before .before .before .before .before .before .before .loop-test .taken);
+        countable = omega (arith, v .few, v .block-long, l, c .before .before .before .before .before .before .before .before .loop-test .taken);
       },
       omega (arith, v .out-long),
     )
@@ -77,23 +81,22 @@ slice-aggregate-last-line-2 c = search needs
 slice-aggregate-last-line-3 : tie.Need-slice-aggregate-last-line-3 Inv-loop μ-loop
 slice-aggregate-last-line-3 c = search needs
 
+slice-aggregate-last-line-4 : tie.Need-slice-aggregate-last-line-4 Inv-loop μ-loop
+slice-aggregate-last-line-4 c = search needs
+
 last-line-requires : tie.Need-last-line-requires Inv-loop μ-loop
 last-line-requires c κs =
-    let v = c .before .before .before .before .before .before .before .before .before .before .before .before .before .before .before .before .before .before .before .before .loop .inv in
-    let r = c .before .before .before .before .before .before .before .before .before .before .before .read-done in (
+    let x = c .before .before .before .before .before .before .before .before .before .before .before .before .before in
+    let loop = x .before .before .before .before .before .before .before .before .before in
+    let v = loop .before .loop .inv in
+    let r = x .read-done in (
       record {
         held = r .ensures .held;
-        goes = c .before .before .before .before .if2 .left;
+        goes = c .before .before .before .before .before .if2 .left;
         line-long = omega (arith, r .kept .1 .1 .1 .0, v .line-long);
-        countable = omega (
-          arith,
-          r .ensures .few,
-          v .few,
-          c .before .before .before .if3 .taken,
-          c .before .before .before .before .before .before .before .before .before .before .before .before .before .before .before .before .before .before .before .loop-test .taken,
-        );
+        countable = omega (arith, r .ensures .few, v .few, c .before .before .before .before .if3 .taken, loop .loop-test .taken);
       },
-      omega (arith, r .kept .1 .1 .1 .1 .1 .0, v .out-long),
+      omega (arith, r .kept .1 .1 .1 .1 .1 .1 .0, v .out-long),
     )
 
 slice-aggregate-flush : tie.Need-slice-aggregate-flush Inv-loop μ-loop
@@ -113,24 +116,19 @@ loop-less c = search needs
 
 loop-again : tie.Need-loop-again Inv-loop μ-loop
 loop-again c =
-    let v = c .before .before .before .before .before .before .before .before .before .before .before .before .before .before .before .before .before .loop .inv in
-    let r = c .before .before .before .before .before .before .before .before .read-done in
-    let l = c .before .before .before .before .before .before .before .before .before .before .before .before .before .before .read .kept .1 .0 in
+    let x = c .before .before .before .before .before .before .before .before .before in
+    let loop = x .before .before .before .before .before .before .before .before .before in
+    let v = loop .before .loop .inv in
+    let r = x .read-done in
+    let l = x .before .before .before .before .before .before .before .read .kept .1 .0 in
     record {
       held = r .ensures .held;
       goes = c .before .if2 .left;
-      few = omega (
-        arith,
-        r .ensures .few,
-        v .few,
-        r .ensures .within,
-        l,
-        v .block-long,
-        c .before .before .before .before .before .before .before .before .before .before .before .before .before .before .before .before .loop-test .taken,
-      );
+      few = omega (arith, r .ensures .few, v .few, r .ensures .within, l, v .block-long, loop .loop-test .taken);
       cells-long = r .kept .1 .1 .1 .1 .0 ∙ v .cells-long;
+      items-long = r .kept .1 .1 .1 .1 .1 .0 ∙ v .items-long;
       block-long = l ∙ v .block-long;
-      out-long = r .kept .1 .1 .1 .1 .1 .0 ∙ v .out-long;
+      out-long = r .kept .1 .1 .1 .1 .1 .1 .0 ∙ v .out-long;
       line-long = r .kept .1 .1 .1 .0 ∙ v .line-long;
     }
 
@@ -151,12 +149,14 @@ main-spec =
     slice-aggregate-read-done-2
     slice-aggregate-read-done-3
     slice-aggregate-read-done-4
+    slice-aggregate-read-done-5
     read-done-requires
     returns
     returns-2
     slice-aggregate-last-line
     slice-aggregate-last-line-2
     slice-aggregate-last-line-3
+    slice-aggregate-last-line-4
     last-line-requires
     slice-aggregate-flush
     flush-requires

@@ -18,7 +18,7 @@ write-all-requires c κs = search needs
 
 -- what the read brought, as the definition counts it
 abbrev entry : tie.After-count → tie.Start
-entry c = c .before .before .before .before .before
+entry c = c .before .before .before .before .before .before
 
 counted : (c : tie.After-count) → c .count .result ≡ clamped (entry c .args .got) (length (entry c .args .block .now))
 counted c = c .count .ensures .1 ∙ ap (λ z. clamped z (length (entry c .args .block .now))) (toZ-ofZ (entry c .fits .got))
@@ -31,7 +31,7 @@ slice-aggregate-block-done c = search needs
 
 block-done-requires : tie.Need-block-done-requires
 block-done-requires c κs =
-    let x = c .before .before .before .before .before in
+    let x = c .before .before .before .before .before .before in
     (fewer _ _ (x .count .ensures .0) (entry x .pre .0), entry x .pre .1)
 
 same-length : tie.Need-same-length
@@ -43,11 +43,15 @@ same-length-2 c = search needs
 same-length-3 : tie.Need-same-length-3
 same-length-3 c = search needs
 
+same-length-4 : tie.Need-same-length-4
+same-length-4 c = search needs
+
 returns-2 : tie.Need-returns-2
 returns-2 c =
-    let x = c .before .before .before .before .before .before .before .before .before .before .before .before .before in
-    let tested = c .before .before .before .before .before .before .before .before .before .before .before .before .if1 .left in
-    brings (x .count .ensures .0) (counted x) (λ j z. not-below _ tested j (toZ-ofZ (entry x .fits .got) ∙ z)) (c .before .before .before .before .before .before .before .block-done .ensures)
+    let x = c .before .before .before .before .before .before .before .before .before .before .before .before .before .before .before .before in
+    let tested = c .before .before .before .before .before .before .before .before .before .before .before .before .before .before .before .if1 .left in
+    brings (x .count .ensures .0) (counted x) (λ j z. not-below _ tested j (toZ-ofZ (entry x .fits .got) ∙ z))
+    (c .before .before .before .before .before .before .before .before .before .block-done .ensures)
 
 pub read-done-spec : {M : Type 1} → statement M
 read-done-spec =
@@ -62,4 +66,5 @@ read-done-spec =
     same-length
     same-length-2
     same-length-3
+    same-length-4
     returns-2)

@@ -1,0 +1,5 @@
+pub mod Search
+pub mod Marks
+pub mod Sizes
+pub mod Theorem
+pub mod Both

@@ -1,0 +1,155 @@
+use lib.ListN.{length}
+use mathlib.Core.Path.{sym, _∙_}
+use native.Mathlib.Omega.{arith}
+use borrow.Author.Needs.{needs}
+use borrow.Author.Tests.{not-true, not-false}
+use Rattle.ring.proofs.Tests.{within-says}
+use Rattle.state.specs.Model.{gateway}
+use Rattle.state.specs.Stages.{earlyBars}
+use Rattle.state.specs.declared.Refusal.the-variants.{Size, Crew, Kind, Unsound, LongList}
+use Rattle.state.proofs.Opening.{open-refused, open-accepted}
+use Rattle.state.proofs.Phase.opened_early.Statement.{statement}
+use Rattle.state.proofs.Phase.opened_early.Tie as tie
+
+size-ok-requires : tie.Need-size-ok-requires
+size-ok-requires c κs = search needs
+
+refused-requires : tie.Need-refused-requires
+refused-requires c κs = search needs
+
+returns : tie.Need-returns
+returns c =
+    let a = c .before .before .before .before .args in
+    open-refused gateway (a .kind) (a .crew) (a .cells .now) (earlyBars gateway (a .kind) (a .crew) (a .cells .now) (a .lines)) _ Size (c .refused .ensures)
+    (simp (sym (c .before .before .size-ok .ensures) ∙ not-true _ (c .before .if1 .taken)))
+
+crew-ok-requires : tie.Need-crew-ok-requires
+crew-ok-requires c κs = search needs
+
+refused-requires-2 : tie.Need-refused-requires-2
+refused-requires-2 c κs = search needs
+
+returns-2 : tie.Need-returns-2
+returns-2 c =
+    let a = c .before .before .before .before .before .before .args in
+    open-refused gateway (a .kind) (a .crew) (a .cells .now) (earlyBars gateway (a .kind) (a .crew) (a .cells .now) (a .lines)) _ Crew (c .refused2 .ensures)
+    (simp (
+      sym (c .before .before .before .before .size-ok .ensures) ∙ not-false _ (c .before .before .before .if1 .left),
+      sym (c .before .before .crew-ok .ensures) ∙ not-true _ (c .before .if2 .taken),
+    ))
+
+kind-ok-requires : tie.Need-kind-ok-requires
+kind-ok-requires c κs = search needs
+
+refused-requires-3 : tie.Need-refused-requires-3
+refused-requires-3 c κs = search needs
+
+returns-3 : tie.Need-returns-3
+returns-3 c =
+    let a = c .before .before .before .before .before .before .before .before .args in
+    open-refused gateway (a .kind) (a .crew) (a .cells .now) (earlyBars gateway (a .kind) (a .crew) (a .cells .now) (a .lines)) _ Kind (c .refused3 .ensures)
+    (simp (
+      sym (c .before .before .before .before .before .before .size-ok .ensures) ∙ not-false _ (c .before .before .before .before .before .if1 .left),
+      sym (c .before .before .before .before .crew-ok .ensures) ∙ not-false _ (c .before .before .before .if2 .left),
+      sym (c .before .before .kind-ok .ensures) ∙ not-true _ (c .before .if3 .taken),
+    ))
+
+is-too-long-requires : tie.Need-is-too-long-requires
+is-too-long-requires c κs = search needs
+
+refused-requires-4 : tie.Need-refused-requires-4
+refused-requires-4 c κs = search needs
+
+returns-4 : tie.Need-returns-4
+returns-4 c =
+    let a = c .before .before .before .before .before .before .before .before .before .before .args in
+    open-refused gateway (a .kind) (a .crew) (a .cells .now) (earlyBars gateway (a .kind) (a .crew) (a .cells .now) (a .lines)) _ LongList (c .refused4 .ensures)
+    (simp (
+      sym (c .before .before .before .before .before .before .before .before .size-ok .ensures) ∙ not-false _ (c .before .before .before .before .before .before .before .if1 .left),
+      sym (c .before .before .before .before .before .before .crew-ok .ensures) ∙ not-false _ (c .before .before .before .before .before .if2 .left),
+      sym (c .before .before .before .before .kind-ok .ensures) ∙ not-false _ (c .before .before .before .if3 .left),
+      sym (c .before .before .is-too-long .ensures) ∙ c .before .if4 .taken,
+    ))
+
+is-sound-requires : tie.Need-is-sound-requires
+is-sound-requires c κs =
+    let a = c .before .before .before .before .before .before .before .before .before .args in
+    let h = within-says _ _ (length (a .cells .now)) .0
+    (sym (c .before .before .before .before .before .before .before .size-ok .ensures) ∙ not-false _ (c .before .before .before .before .before .before .if1 .left)) in
+    omega arith
+
+refused-requires-5 : tie.Need-refused-requires-5
+refused-requires-5 c κs = search needs
+
+returns-5 : tie.Need-returns-5
+returns-5 c =
+    let a = c .before .before .before .before .before .before .before .before .before .before .before .before .args in
+    open-refused gateway (a .kind) (a .crew) (a .cells .now) (earlyBars gateway (a .kind) (a .crew) (a .cells .now) (a .lines)) _ Unsound (c .refused5 .ensures)
+    (simp (
+      sym (c .before .before .before .before .before .before .before .before .before .before .size-ok .ensures) ∙ not-false _ (c .before .before .before .before .before .before .before .before .before .if1 .left),
+      sym (c .before .before .before .before .before .before .before .before .crew-ok .ensures) ∙ not-false _ (c .before .before .before .before .before .before .before .if2 .left),
+      sym (c .before .before .before .before .before .before .kind-ok .ensures) ∙ not-false _ (c .before .before .before .before .before .if3 .left),
+      sym (c .before .before .before .before .is-too-long .ensures) ∙ c .before .before .before .if4 .left,
+      sym (c .before .before .is-sound .ensures) ∙ not-true _ (c .before .if5 .taken),
+    ))
+
+cast-fresh : tie.Need-cast-fresh
+cast-fresh c =
+    let a = c .before .before .before .before .before .before .before .before .before .before .before .args in
+    let h = within-says _ _ (a .kind) .0
+    (sym (c .before .before .before .before .before .kind-ok .ensures) ∙ not-false _ (c .before .before .before .before .if3 .left)) in
+    omega arith
+
+cast-fresh-2 : tie.Need-cast-fresh-2
+cast-fresh-2 c =
+    let a = c .before .before .before .before .before .before .before .before .before .before .before .args in
+    let h = within-says _ _ (length (a .cells .now)) .0
+    (sym (c .before .before .before .before .before .before .before .before .before .size-ok .ensures) ∙ not-false _ (c .before .before .before .before .before .before .before .before .if1 .left)) in
+    omega arith
+
+cast-fresh-3 : tie.Need-cast-fresh-3
+cast-fresh-3 c =
+    let a = c .before .before .before .before .before .before .before .before .before .before .before .args in
+    let h = within-says _ _ (a .crew) .0
+    (sym (c .before .before .before .before .before .before .before .crew-ok .ensures) ∙ not-false _ (c .before .before .before .before .before .before .if2 .left)) in
+    omega arith
+
+fresh-requires : tie.Need-fresh-requires
+fresh-requires c κs = search needs
+
+returns-6 : tie.Need-returns-6
+returns-6 c =
+    let a = c .before .before .before .before .before .before .before .before .before .before .before .before .args in
+    open-accepted gateway (a .kind) (a .crew) (a .cells .now) (earlyBars gateway (a .kind) (a .crew) (a .cells .now) (a .lines)) _ (c .fresh .ensures)
+    (simp (
+      sym (c .before .before .before .before .before .before .before .before .before .before .size-ok .ensures) ∙ not-false _ (c .before .before .before .before .before .before .before .before .before .if1 .left),
+      sym (c .before .before .before .before .before .before .before .before .crew-ok .ensures) ∙ not-false _ (c .before .before .before .before .before .before .before .if2 .left),
+      sym (c .before .before .before .before .before .before .kind-ok .ensures) ∙ not-false _ (c .before .before .before .before .before .if3 .left),
+      sym (c .before .before .before .before .is-too-long .ensures) ∙ c .before .before .before .if4 .left,
+      sym (c .before .before .is-sound .ensures) ∙ not-false _ (c .before .if5 .left),
+    ))
+
+pub opened-early-spec : {M : Type 1} → statement M
+opened-early-spec =
+    tie.close
+    (tie.spec
+    size-ok-requires
+    refused-requires
+    returns
+    crew-ok-requires
+    refused-requires-2
+    returns-2
+    kind-ok-requires
+    refused-requires-3
+    returns-3
+    is-too-long-requires
+    refused-requires-4
+    returns-4
+    is-sound-requires
+    refused-requires-5
+    returns-5
+    cast-fresh
+    cast-fresh-2
+    cast-fresh-3
+    fresh-requires
+    returns-6)

@@ -1,0 +1,27 @@
+-- The opening in two stages, for the functions that make it up: what is refused before a line of the list is read, and what behind the lines.
+use mathlib.Core.Bool.{Bool, false, cond}
+use mathlib.Core.List.{List, [], _∷_, _++_}
+use Prim.Native.Nat.{ℕ}
+use lib.Dec.{ltb, eqb}
+use lib.ListN.{length}
+use Rattle.prices.specs.Contents.{isSoundTable}
+use Rattle.state.specs.Model.{Model, sizeOk, crewOk}
+use Rattle.state.specs.Open.{faultBars, limitBars, soundBars}
+use Rattle.state.specs.Refusals.{Bar, if}
+use Rattle.state.specs.declared.Refusal.the-variants.{Full, LongList}
+
+module _ (M : Model) (k m : ℕ) (t : List ℕ) (lines : ℕ) where
+  -- of a phase with a list of so many lines: 1, 2, 3, of an insert phase 16, then 4
+  abbrev pub earlyBars : List Bar
+  earlyBars = limitBars M k m t ++ if (cond (eqb k 1) (ltb (M .mostLines) lines) false) LongList ∷ soundBars M t
+
+  -- an insert phase of which none of these is refused
+  abbrev pub readsList : Bool
+  readsList =
+      cond (eqb k 1)
+      (cond (sizeOk M (length t)) (cond (crewOk M m) (cond (ltb (M .mostLines) lines) false (isSoundTable (length t) (M .home (length t)) t)) false) false)
+      false
+
+-- then the lines' 7, 14 and 6 by their number, and 9
+abbrev pub lateBars : ℕ → Bool → List Bar
+lateBars fault full = faultBars fault ++ if full Full ∷ []
