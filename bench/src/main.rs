@@ -10,7 +10,7 @@ use std::time::Instant;
 
 use conformance::{close, order, order_line, reference_open, reference_run, turn, Call, Calls, Orders, REFUSED};
 use reference::generate::Rng;
-use reference::layout::{label_of, layout, Prices, MAX_PRICE};
+use reference::layout::{content, label_of, layout, way_is_greater, Prices, MAX_PRICE};
 use reference::listing;
 use reference::phase::{Activity, Order, Phase};
 
@@ -41,59 +41,159 @@ fn price(key: u32) -> u32 {
     1 + key % MAX_PRICE
 }
 
-/// A sound table of 8,192 cells: labels at random, or all at one home in 128.
-fn table(share: f64, crowded: bool) -> Vec<u64> {
-    const CELLS: usize = 8192;
-    let mut random = Rng::new(7);
-    let labels = (share * CELLS as f64).round() as usize;
-    let mut set = Prices::new();
-    while set.len() < labels {
-        let x = random.below(u32::MAX as usize) as u32;
-        let key = if crowded { x / 128 * 128 + 128 } else { x + 1 };
-        set.insert(key, price(key));
+const CELLS: usize = 8192;
+
+/// How many tables of a family are taken in turn: neither side learns one by heart, as the processor's branch prediction does.
+const TABLES: u32 = 16;
+
+/// How the labels of a table are chosen: from a number drawn at random, from how many there are already, and from the table's number.
+#[derive(Clone, Copy)]
+struct Family {
+    name: &'static str,
+    label: fn(u32, u32, u32) -> u32,
+}
+
+/// At random.
+const TAME: Family = Family { name: "tame homes", label: |drawn, _, _| drawn + 1 };
+
+/// All at one home in 128.
+const CROWDED: Family = Family { name: "crowded homes", label: |drawn, _, _| drawn / 128 * 128 + 128 };
+
+/// In steps of 100, as the factory numbers them: short ways at this length.
+const HUNDREDS: Family = Family { name: "labels in steps of 100", label: |_, known, number| 100 * (known + 1 + 9973 * number) };
+
+/// All at home in 41 cells side by side: ways of thousands of cells.
+const SIDE_BY_SIDE: Family = Family { name: "41 homes side by side", label: |drawn, _, _| drawn / CELLS as u32 * CELLS as u32 + 4000 + drawn % 41 };
+
+impl Family {
+    /// A sound table of 8,192 cells with so many labels.
+    fn table(self, labels: usize, number: u32) -> Vec<u64> {
+        let mut random = Rng::new(7 + u64::from(number));
+        let mut set = Prices::new();
+        while set.len() < labels {
+            let key = (self.label)(random.below(u32::MAX as usize) as u32, set.len() as u32, number);
+            set.insert(key, price(key));
+        }
+        layout(CELLS, &set)
     }
-    layout(CELLS, &set)
+
+    /// The same by the share of the cells that are taken.
+    fn share(self, share: f64, number: u32) -> Vec<u64> {
+        self.table((share * CELLS as f64).round() as usize, number)
+    }
+}
+
+/// So many rounds of a job that is done so many times in each, on the tables in turn.
+#[derive(Clone, Copy)]
+struct Work {
+    rounds: usize,
+    repeat: usize,
+}
+
+impl Work {
+    /// Microseconds of the job once.
+    fn line(self, name: &str, tables: &[Vec<u64>], mut ours: impl FnMut(&[u64]), mut theirs: impl FnMut(&[u64])) {
+        let round = |job: &mut dyn FnMut(&[u64])| seconds(|| tables.iter().cycle().take(self.repeat).for_each(|table| job(black_box(table))));
+        line(name, "µs", 1e6 / self.repeat as f64, alternate(self.rounds, || round(&mut ours), || round(&mut theirs)));
+    }
+
+    /// A check that answers this.
+    fn check(self, name: &str, tables: &[Vec<u64>], answer: Result<(), u8>) {
+        self.line(
+            &format!("check, {name}"),
+            tables,
+            |table| assert_eq!(conformance::check(table), answer),
+            |table| assert_eq!(listing::check(table), answer),
+        );
+    }
+}
+
+/// Check, count and list of sound tables.
+fn sound(family: Family, share: f64, work: Work) {
+    let tables: Vec<_> = (0..TABLES).map(|number| family.share(share, number)).collect();
+    let name = format!("{:.1} % full, {}", share * 100.0, family.name);
+    work.check(&name, &tables, Ok(()));
+    let labels = listing::count(&tables[0]);
+    work.line(
+        &format!("count, {name}"),
+        &tables,
+        |table| assert_eq!(conformance::count(table), labels),
+        |table| assert_eq!(listing::count(table), labels),
+    );
+    let (mut ours, mut theirs) = (vec![0; CELLS], vec![0; CELLS]);
+    work.line(
+        &format!("list, {name}"),
+        &tables,
+        |table| assert_eq!(conformance::list(table, &mut ours), labels),
+        |table| assert_eq!(listing::list(table, &mut theirs), labels),
+    );
+    assert_eq!(ours, theirs);
+}
+
+/// The lowest-numbered cell whose label breaks the way rule.
+fn lowest_broken(table: &[u64]) -> Option<usize> {
+    (0..table.len()).find(|&at| table[at] != 0 && !way_is_greater(table, label_of(table[at]), at))
+}
+
+/// The table with a change near its end that leaves the ways of all labels in the first nine tenths of the cells as they are and breaks one behind, so that it is
+/// refused with this number; if there is such a change.
+fn broken_late(table: &[u64], number: u8, change: impl Fn(&mut [u64], usize)) -> Option<Vec<u64>> {
+    let changed = |at| {
+        let mut table = table.to_vec();
+        change(&mut table, at);
+        table
+    };
+    let late = |table: &Vec<u64>| lowest_broken(table).is_some_and(|at| at >= CELLS / 10 * 9) && listing::check(table) == Err(number);
+    (1..CELLS).rev().map(changed).find(late)
+}
+
+/// A table with one cell or two changed, by the table's number.
+type Spoil = fn(u32) -> Option<Vec<u64>>;
+
+/// A price that no label has, in the last cell that is taken.
+fn wrong_price(number: u32) -> Option<Vec<u64>> {
+    let mut table = TAME.share(0.95, number);
+    let last = table.iter().rposition(|&cell| cell != 0).expect("a label");
+    table[last] = content(label_of(table[last]), MAX_PRICE + 1);
+    Some(table)
+}
+
+/// A label at home in the last empty cell.
+fn full(number: u32) -> Option<Vec<u64>> {
+    let mut table = TAME.table(CELLS - 1, number);
+    let empty = table.iter().position(|&cell| cell == 0).expect("an empty cell");
+    table[empty] = content((CELLS + empty) as u32, 1);
+    Some(table)
+}
+
+/// Checks of tables that are not sound; nearly all cells are read.
+fn unsound() {
+    let hole: Spoil = |number| broken_late(&TAME.share(0.95, number), 17, |table, at| table[at] = 0);
+    let swapped: Spoil = |number| broken_late(&TAME.share(0.95, number), 18, |table, at| table.swap(at - 1, at));
+    for (name, spoil, number) in [
+        ("refused with 4 for the price in the last cell, 95.0 % full", wrong_price as Spoil, 4),
+        ("refused with 4, all cells taken", full, 4),
+        ("refused with 17 near the end, 95.0 % full", hole, 17),
+        ("refused with 18 near the end, 95.0 % full", swapped, 18),
+    ] {
+        let tables: Vec<_> = (0..).filter_map(spoil).take(TABLES as usize).collect();
+        Work { rounds: 61, repeat: 32 }.check(name, &tables, Err(number));
+    }
 }
 
 fn at_rest() {
-    for crowded in [false, true] {
+    for family in [TAME, CROWDED] {
         for share in [0.1, 0.5, 0.95, 0.999] {
-            let table = black_box(table(share, crowded));
-            let name = format!("{:.1} % full, {}", share * 100.0, if crowded { "crowded homes" } else { "tame homes" });
-            let repeat = if crowded && share > 0.4 { 1 } else { 20 };
-            let per = 1e6 / f64::from(repeat);
-            let each = |job: &dyn Fn()| seconds(|| (0..repeat).for_each(|_| job()));
-            line(
-                &format!("check, {name}"),
-                "µs",
-                per,
-                alternate(
-                    61,
-                    || each(&|| assert!(conformance::check(black_box(&table)).is_ok())),
-                    || each(&|| assert!(listing::check(black_box(&table)).is_ok())),
-                ),
-            );
-            let labels = listing::count(&table).expect("a sound table");
-            line(
-                &format!("count, {name}"),
-                "µs",
-                per,
-                alternate(
-                    61,
-                    || each(&|| assert_eq!(conformance::count(black_box(&table)), Ok(labels))),
-                    || each(&|| assert_eq!(listing::count(black_box(&table)), Ok(labels))),
-                ),
-            );
-            let (mut ours, mut theirs) = (vec![0; 8192], vec![0; 8192]);
-            let times = alternate(
-                61,
-                || seconds(|| (0..repeat).for_each(|_| assert_eq!(conformance::list(black_box(&table), &mut ours), Ok(labels)))),
-                || seconds(|| (0..repeat).for_each(|_| assert_eq!(listing::list(black_box(&table), &mut theirs), Ok(labels)))),
-            );
-            assert_eq!(ours, theirs);
-            line(&format!("list, {name}"), "µs", per, times);
+            let long = family.name == CROWDED.name && share > 0.4;
+            sound(family, share, Work { rounds: 61, repeat: if long { 16 } else { 32 } });
         }
     }
+    for share in [0.5, 0.95, 0.999] {
+        sound(HUNDREDS, share, Work { rounds: 61, repeat: 32 });
+    }
+    // the reference takes more than 10 ms each time
+    sound(SIDE_BY_SIDE, 0.999, Work { rounds: 11, repeat: 4 });
+    unsound();
 }
 
 /// A shift of sixteen workers on 4,096 cells, about 60 % full, recorded once: its list, and orders and turns as chance deals them.

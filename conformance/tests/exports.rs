@@ -1,12 +1,16 @@
-//! The exported functions against the reference, on sound, damaged and oversized tables, on lists of orders and on lists of calls.
+//! The exported functions against the reference, on sound, torn, full, damaged and oversized tables, on lists of orders and on lists of calls.
 //!
 //! The library lends the list of the opening to every order call: what an altered list does is not reached from here.
 
+use std::collections::BTreeMap;
+use std::time::{Duration, Instant};
+
 use conformance::{check, close, count, list, order, order_line, reference_open, reference_run, turn, Call, Calls, Orders, REFUSED, WORDS};
-use reference::generate::{orders, price, spoil, Rng, WRONG_PRICES};
+use reference::generate::{all_tables, fill, later, orders, overwrite, price, returned, spoil, table, torn, Rng, WRONG_PRICES};
 use reference::layout::{content, label_of, layout, price_of, Prices, MAX_PRICE};
 use reference::listing;
 use reference::phase::{Activity, Order, Phase, PUT_IN, TAKE_OUT};
+use reference::refusal;
 
 /// What stands in lent places before a call.
 const MARK: u64 = 0xDEAD_BEEF_DEAD_BEEF;
@@ -17,41 +21,6 @@ type Entry = (u32, u32);
 /// A line of a list of orders.
 fn put(worker: u32, label: u32, price: u32) -> Order {
     Order { worker, label, price }
-}
-
-/// A sound table: some labels, crowded at few homes or spread, each with a price.
-fn table(random: &mut Rng, cells: usize) -> Vec<u64> {
-    let labels = random.below(cells);
-    let crowd = random.below(3);
-    let mut set = Prices::new();
-    while set.len() < labels {
-        let x = match crowd {
-            0 => random.below(u32::MAX as usize) as u32 + 1,
-            1 => (random.below(1 << 25) as u32 + 1).wrapping_mul(100).max(1),
-            _ => u32::MAX - random.below(4 * cells) as u32,
-        };
-        set.insert(x, price(random));
-    }
-    layout(cells, &set)
-}
-
-/// The same with a few cells changed: emptied, copied, moved, at another price, at a wrong one, or with a price and no label.
-fn damaged(random: &mut Rng, cells: usize) -> Vec<u64> {
-    let mut table = table(random, cells);
-    for _ in 0..=random.below(2) {
-        let at = random.below(cells);
-        let from = random.below(cells);
-        match random.below(7) {
-            0 => table[at] = 0,
-            1 => table[at] = table[from],
-            2 => table.swap(at, from),
-            3 => table[at] = content(label_of(table[from]), price(random)),
-            4 => table[at] = content(label_of(table[at]), price(random)),
-            5 => table[at] = content(label_of(table[at]), random.pick(&WRONG_PRICES)),
-            _ => table[at] = content(0, price(random)),
-        }
-    }
-    table
 }
 
 fn same_at_rest(table: &[u64], room: usize) {
@@ -71,7 +40,7 @@ fn check_count_and_list() {
             1 => 2 + random.below(400),
             _ => 2 + random.below(12),
         };
-        let table = if round % 2 == 0 { table(&mut random, cells) } else { damaged(&mut random, cells) };
+        let table = if round % 2 == 0 { table(&mut random, cells) } else { returned(&mut random, cells) };
         let labels = table.iter().filter(|&&x| x != 0).count();
         for room in [0, labels.saturating_sub(1), labels, labels + 1, cells + 5] {
             same_at_rest(&table, room);
@@ -87,8 +56,7 @@ fn the_limits_of_a_table() {
         if cells >= 2 {
             let table = table(&mut random, cells);
             same_at_rest(&table, cells);
-            let broken = damaged(&mut random, cells);
-            same_at_rest(&broken, cells);
+            same_at_rest(&returned(&mut random, cells), cells);
         }
     }
 }
@@ -99,7 +67,7 @@ fn wrong_cells() {
     for cells in [2, 3, 5, 64, 65] {
         for at in 0..cells {
             for label in [0, at as u32, (at + cells) as u32, u32::MAX] {
-                for price in [0, 1, 2, MAX_PRICE - 1, MAX_PRICE, MAX_PRICE + 1, 1 << 24, u32::MAX] {
+                for price in [0, 1, 2, MAX_PRICE - 1, MAX_PRICE, MAX_PRICE + 1, 1 << 24, (1 << 24) + 1, (1 << 31) + 1, u32::MAX] {
                     let mut table = vec![0; cells];
                     table[at] = content(label, price);
                     same_at_rest(&table, cells);
@@ -148,7 +116,10 @@ fn numbers_of_the_header() {
     for (n, name) in [(1, "WENT_ON"), (2, "FINISHED"), (4, "NO"), (5, "IDLE")] {
         assert_eq!(meaning(&format!("VULZEGAN_{name}")), format!("(VULZEGAN_WORDS + {n})"));
     }
-    assert!(header.contains("VULZEGAN_REFUSED + the number of documents 01 and 02, 1 to 16."));
+    for (n, name) in [(4, "UNSOUND"), (17, "GAP"), (18, "DISORDER")] {
+        assert_eq!(meaning(&format!("VULZEGAN_{name}")), format!("(VULZEGAN_REFUSED + {n})"));
+    }
+    assert!(header.contains("VULZEGAN_REFUSED + the number of documents 01 and 02, 1 to 18."));
     let functions: Vec<&str> = header.lines().filter(|l| l.contains(" vulzegan_") && l.contains('(')).collect();
     assert!(functions.len() == 6 && functions.iter().all(|l| l.starts_with("uint64_t vulzegan_")), "{functions:?}");
     let text = header.split_whitespace().collect::<Vec<_>>().join(" ");
@@ -180,8 +151,10 @@ fn openings_at_the_limits() {
             }
         }
     }
-    for labels in [[0, 0, 0, 8, 13], [0, 0, 0, 3, 3], [6, 0, 0, 0, 0], [5, 6, 7, 8, 9]] {
-        same_run(1, 1, &labels.map(|x| if x == 0 { 0 } else { content(x, 1) }), &[put(0, 1, 1)], &[order_line(0)]);
+    for (labels, number) in [([0, 0, 0, 8, 13], 18), ([0, 0, 0, 3, 3], 18), ([6, 0, 0, 0, 0], 17), ([5, 6, 7, 8, 9], 4)] {
+        let table = labels.map(|x| if x == 0 { 0 } else { content(x, 1) });
+        assert_eq!(check(&table), Err(number));
+        assert_eq!(same_openings(&table), REFUSED + u64::from(number));
     }
     for cell in [1, MAX_PRICE.into(), content(8, 0), content(8, MAX_PRICE), content(8, MAX_PRICE + 1), content(8, u32::MAX)] {
         for kind in 1..=3 {
@@ -199,17 +172,36 @@ fn openings_refuse_in_order() {
         assert_eq!(reference_open(kind, crew, table, list), REFUSED + number, "{kind} {crew} {table:?}");
     };
     let long = vec![put(9, 0, 0); 65_537];
-    let unsound = [content(1, 1), content(1, 1)];
-    for kind in [0, 1, 4] {
-        refused(kind, 0, &unsound[..1], &long, 1);
-        refused(kind, 0, &unsound, &long, 2);
-    }
-    refused(0, 1, &unsound, &long, 3);
-    refused(4, 1, &unsound, &long, 3);
-    refused(1, 1, &unsound, &long, 16);
-    refused(1, 1, &unsound, &long[1..], 4);
     let full = [put(0, 1, 1), put(0, 2, 1), put(0, 3, 1)];
     let bad = [(put(9, 0, 0), 7), (put(9, 5, 0), 14), (put(9, 5, 1), 6)];
+    // full, a price without a label, a wrong price, a label behind an empty cell, and one behind a smaller label
+    let (one, four) = (content(1, 1), content(4, 1));
+    for (unsound, number) in [([one; 3], 4), ([0, 0, 1], 4), ([0, content(1, 0), 0], 4), ([one, 0, 0], 17), ([0, one, four], 18)] {
+        for kind in [0, 1, 4] {
+            refused(kind, 0, &unsound[..1], &long, 1);
+            refused(kind, 0, &unsound, &long, 2);
+        }
+        refused(0, 1, &unsound, &long, 3);
+        refused(4, 1, &unsound, &long, 3);
+        refused(1, 1, &unsound, &long, 16);
+        refused(1, 1, &unsound, &long[1..], number);
+        refused(1, 1, &unsound, &full, number);
+        for (line, _) in bad {
+            refused(1, 1, &unsound, &[line], number);
+        }
+        for kind in [2, 3] {
+            refused(kind, 1, &unsound, &long, number);
+        }
+    }
+    // the same in a table that is too long: 8,193 has its home in cell 0 there, and in cell 1 of the longest
+    for (front, number) in [([content(5, 1), 0, 0], 17), ([0, one, content(8193, 1)], 18), ([0, 1, 0], 4)] {
+        let mut table = front.to_vec();
+        table.resize(8192, 0);
+        refused(1, 1, &table, &long, 16);
+        refused(1, 1, &table, &long[1..], number);
+        table.push(0);
+        refused(1, 1, &table, &long, 1);
+    }
     for (first, number) in bad {
         for (second, _) in bad {
             for place in 0..=full.len() {
@@ -222,6 +214,158 @@ fn openings_refuse_in_order() {
     }
     refused(1, 1, &[0, content(7, 1)], &full, 9);
 }
+
+// ---- tables of the repair bench
+
+/// Openings of every kind, without a list, with lines that a sound table takes, with a bad line behind one of them, and with more labels than
+/// it has room for. The answer that they have in common where the table is not sound, otherwise 0.
+fn same_openings(table: &[u64]) -> u64 {
+    let many: Vec<Order> = (0..=table.len() as u32).map(|i| put(1, u32::MAX - i, 7)).collect();
+    let calls = [Call { op: 1, line: 0, worker: 0, key: 5 }, turn(0), turn(0), turn(1), close()];
+    let answer = reference_open(2, 2, table, &[]);
+    for kind in 1..=3 {
+        for list in [&[][..], &[put(0, 5, 3), put(1, 5, 2)], &[put(0, 5, 3), put(2, 0, 0)], &many] {
+            same_run(kind, 2, table, list, &calls);
+            assert!(answer == 0 || answer == reference_open(kind, 2, table, list));
+        }
+    }
+    answer
+}
+
+/// How often each answer came up.
+#[derive(Default)]
+struct Tally(BTreeMap<u64, usize>);
+
+impl Tally {
+    /// A table through check, count, list and the openings.
+    fn take(&mut self, table: &[u64]) {
+        let labels = table.iter().filter(|&&cell| cell != 0).count();
+        for room in [0, labels, table.len() + 1] {
+            same_at_rest(table, room);
+        }
+        *self.0.entry(same_openings(table)).or_default() += 1;
+    }
+
+    /// Accepted, 4, 17 and 18 came up, each at least so often, and nothing else.
+    fn each(self, least: usize) {
+        let answers: Vec<u64> = self.0.keys().copied().collect();
+        assert_eq!(answers, [0, REFUSED + 4, REFUSED + 17, REFUSED + 18], "{:?}", self.0);
+        assert!(self.0.values().all(|&often| often >= least), "{:?}", self.0);
+    }
+}
+
+/// Every table of up to four cells: labels with homes in every cell, one of them at two prices, and contents that are wrong by themselves.
+#[test]
+fn all_small_tables() {
+    let mut contents = vec![0, content(0, 7), content(3, 0), content(6, MAX_PRICE + 1), content(5, MAX_PRICE)];
+    contents.extend((1..=8).map(|label| content(label, 1)));
+    let tally = |cells| {
+        let mut tally = Tally::default();
+        all_tables(cells, &contents).for_each(|table| tally.take(&table));
+        tally
+    };
+    // of two cells one is empty and the other has a label, at home there or not
+    assert_eq!(tally(2).0, BTreeMap::from([(0, 1 + 9), (REFUSED + 4, 13 * 13 - 19), (REFUSED + 17, 9)]));
+    // one sound table for each set of fewer labels than cells, without 5 and with it at two prices
+    for (cells, sound) in [(3, 1 + 7 + 21 + 2 * (1 + 7)), (4, 1 + 7 + 21 + 35 + 2 * (1 + 7 + 21))] {
+        let tally = tally(cells);
+        assert_eq!(tally.0[&0], sound);
+        tally.each(45);
+    }
+}
+
+/// Sound, torn, full and written over, by one damage or several, spread and crowded.
+#[test]
+fn returned_tables() {
+    let mut random = Rng::new(8);
+    let mut tally = Tally::default();
+    for round in 0..12_000 {
+        let cells = if round % 4 == 0 { random.within(2, 400) } else { random.within(2, 40) };
+        tally.take(&returned(&mut random, cells));
+    }
+    tally.each(1000);
+}
+
+/// The same at the greatest lengths.
+#[test]
+fn large_returned_tables() {
+    let mut random = Rng::new(9);
+    let mut tally = Tally::default();
+    for round in 0..90 {
+        tally.take(&returned(&mut random, 8190 + round % 3));
+    }
+    tally.each(8);
+}
+
+/// One cell written over, anywhere in the table.
+#[test]
+fn one_cell_written_over() {
+    let mut random = Rng::new(10);
+    let mut tally = Tally::default();
+    for _ in 0..9000 {
+        let cells = random.within(2, 130);
+        let mut table = table(&mut random, cells);
+        overwrite(&mut random, &mut table);
+        tally.take(&table);
+    }
+    tally.each(800);
+}
+
+/// Every cut of two tables: of one table before and after some shifts, and of two that have nothing in common.
+#[test]
+fn torn_everywhere() {
+    let mut random = Rng::new(11);
+    let mut tally = Tally::default();
+    for cells in [64, 65, 100, 127, 128, 129, 130] {
+        for _ in 0..8 {
+            let old = table(&mut random, cells);
+            for new in [later(&mut random, &old), table(&mut random, cells)] {
+                for cut in 0..=cells {
+                    tally.take(&torn(&old, &new, cut));
+                    tally.take(&torn(&new, &old, cut));
+                }
+            }
+        }
+    }
+    tally.each(50);
+}
+
+/// Full tables, in which the way rule holds or is broken, and each with one cell emptied again.
+#[test]
+fn full_tables() {
+    let mut random = Rng::new(12);
+    let (mut full, mut tally) = (Tally::default(), Tally::default());
+    for round in 0..600 {
+        let cells = if round % 60 == 0 { random.within(8190, 8192) } else { random.within(2, 130) };
+        let mut table = table(&mut random, cells);
+        fill(&mut random, &mut table);
+        full.take(&table);
+        table[random.below(cells)] = 0;
+        tally.take(&table);
+    }
+    assert_eq!(full.0, BTreeMap::from([(REFUSED + 4, 600)]));
+    assert_eq!(tally.0.get(&(REFUSED + 4)), None);
+    assert!(tally.0.values().all(|&often| often > 50) && tally.0.len() == 3, "{:?}", tally.0);
+}
+
+/// All labels at one home, 8,191 of them: to walk every way reads 33 million cells, each time some 10 ms. A thousand checks take far less.
+#[test]
+fn crowded_tables_are_checked_in_linear_time() {
+    let labels = (1..8192).map(|i| content(8192 * (8192 - i), 1));
+    let sound: Vec<u64> = labels.chain([0]).collect();
+    let mut broken = sound.clone();
+    broken.swap(8189, 8190);
+    let start = Instant::now();
+    for _ in 0..1000 {
+        assert_eq!(check(&sound), Ok(()));
+        assert_eq!(check(&broken), Err(refusal::DISORDER));
+    }
+    assert!(start.elapsed() < Duration::from_secs(5), "two thousand checks took {:?}", start.elapsed());
+    assert_eq!(listing::check(&sound), Ok(()));
+    assert_eq!(listing::check(&broken), Err(refusal::DISORDER));
+}
+
+// ---- openings with lists
 
 /// The two-cell table with 7 opens for 7 alone; kinds 2 and 3 open for any list.
 #[test]

@@ -5,7 +5,9 @@
  *
  * A cell is a number of 64 bits: a key (1 to 4,294,967,295) times 4,294,967,296, plus its price in cents; 0 is an empty cell.
  * A price is 1 to 9,999,999. A table has 2 to 8,192 cells.
- * A table with a cell other than 0 that has no key, or a price outside these limits, is not sound.
+ * The home of a key is its number modulo the number of cells; its probe path is the cells from its home up to, not including, its own, with
+ * cell 0 after the last one. A table is sound if a cell is empty, every other one has a key and a price within these limits, and the probe path
+ * of every key holds only greater keys.
  *
  * Every answer is one number of 64 bits: below VULZEGAN_REFUSED it is a value, from there up to VULZEGAN_WORDS a refusal, from there on a word.
  */
@@ -22,8 +24,15 @@ extern "C" {
 /* Values: a count, the price that a find found, or VULZEGAN_ACCEPTED where a call gives no value and is not refused. */
 #define VULZEGAN_ACCEPTED UINT64_C(0)
 
-/* Refusals: VULZEGAN_REFUSED + the number of documents 01 and 02, 1 to 16. A refusal changes nothing. */
+/* Refusals: VULZEGAN_REFUSED + the number of documents 01 and 02, 1 to 18. A refusal changes nothing. */
 #define VULZEGAN_REFUSED UINT64_C(4294967296)
+
+/* The refusals of a table that is not sound. UNSOUND: no cell is empty, or some cell other than 0 has no key or a price outside the limits.
+ * Otherwise the lowest-numbered cell decides whose key has on its probe path not only greater keys, by the first content there that is not
+ * greater: GAP if that is an empty cell, DISORDER if it is a key. */
+#define VULZEGAN_UNSOUND (VULZEGAN_REFUSED + 4)
+#define VULZEGAN_GAP (VULZEGAN_REFUSED + 17)
+#define VULZEGAN_DISORDER (VULZEGAN_REFUSED + 18)
 
 /* Words: the answers of turns that are neither refused nor a price. */
 #define VULZEGAN_WORDS UINT64_C(8589934592)
@@ -32,7 +41,7 @@ extern "C" {
 #define VULZEGAN_NO (VULZEGAN_WORDS + 4)
 #define VULZEGAN_IDLE (VULZEGAN_WORDS + 5)
 
-/* Whether the table is sound: VULZEGAN_ACCEPTED or a refusal. */
+/* Whether the table is sound: VULZEGAN_ACCEPTED or a refusal. The time is linear in the cells. This and the next two take some 19 KB of stack. */
 uint64_t vulzegan_check(const uint64_t *cells, size_t cells_len);
 
 /* How many keys the table has, or a refusal. */
@@ -50,7 +59,7 @@ struct vulzegan_order {
 
 /* Whether a phase of a kind (1 insert, 2 delete, 3 find) with count workers opens on cells: VULZEGAN_ACCEPTED or a refusal.
  * An insert phase opens for a list of at most 65,536 orders, whose keys and those of the table, each counted once, are fewer than the cells.
- * The other kinds do not read the list. Opening takes some 165 KB of stack, here and below. */
+ * The other kinds do not read the list. Opening takes some 185 KB of stack, here and below. */
 uint64_t vulzegan_open(uint64_t kind, uint64_t count, const uint64_t *cells, size_t cells_len,
                        const struct vulzegan_order *orders, size_t orders_len);
 

@@ -1,4 +1,5 @@
-//! Random shift sheets, each reproducible from one seed.
+//! Random shift sheets, lists of orders and tables, each reproducible from one
+//! seed.
 //!
 //! A sheet is a few chapters. A chapter sets up a fresh table and works
 //! several shifts on it, each ended by `run` and `close`, so an undamaged sheet
@@ -9,7 +10,7 @@
 
 use std::collections::BTreeSet;
 
-use crate::layout::{label_of, MAX_PRICE};
+use crate::layout::{content, label_of, layout, least_prices, Prices, EMPTY, MAX_PRICE};
 use crate::phase::{Activity, Order, Phase, PUT_IN};
 use crate::refusal;
 
@@ -68,7 +69,15 @@ pub fn price(rng: &mut Rng) -> u32 {
 }
 
 /// Prices that no label may have.
-pub const WRONG_PRICES: [u32; 5] = [0, MAX_PRICE + 1, MAX_PRICE + 2, u32::MAX - 1, u32::MAX];
+pub const WRONG_PRICES: [u32; 7] = [
+    0,
+    MAX_PRICE + 1,
+    MAX_PRICE + 2,
+    (1 << 24) + 1,
+    (1 << 31) + 1,
+    u32::MAX - 1,
+    u32::MAX,
+];
 
 /// The labels of a table.
 fn labels_of(table: &[u64]) -> Vec<u32> {
@@ -119,6 +128,120 @@ pub fn spoil(rng: &mut Rng, order: &mut Order, crew: usize) {
     if reasons & 4 != 0 {
         order.worker = rng.pick(&[crew as u32, crew as u32 + 1, u32::MAX]);
     }
+}
+
+/// Every table of so many cells that holds these contents and no others.
+pub fn all_tables(cells: usize, contents: &[u64]) -> impl Iterator<Item = Vec<u64>> + '_ {
+    let count = contents.len();
+    (0..count.pow(cells as u32)).map(move |mut number| {
+        let digit = |_| {
+            let digit = number % count;
+            number /= count;
+            contents[digit]
+        };
+        (0..cells).map(digit).collect()
+    })
+}
+
+/// A sound table, often with one empty cell: the labels are spread, or in steps
+/// of 100, or the greatest, or all at home in a few cells side by side.
+pub fn table(rng: &mut Rng, cells: usize) -> Vec<u64> {
+    let labels = match rng.once_in(3) {
+        true => cells - 1,
+        false => rng.below(cells),
+    };
+    let style = rng.below(4);
+    let (home, homes) = (rng.below(cells), rng.within(1, 8));
+    let mut prices = Prices::new();
+    while prices.len() < labels {
+        let label = match style {
+            0 => rng.below(u32::MAX as usize) + 1,
+            1 => 100 * rng.within(1, 1 << 25),
+            2 => u32::MAX as usize - rng.below(4 * cells),
+            _ => cells * rng.within(1, 4 * cells) + (home + rng.below(homes)) % cells,
+        };
+        prices.insert(label as u32, price(rng));
+    }
+    layout(cells, &prices)
+}
+
+/// The sound table after some more shifts: labels less and labels more, a few
+/// of them or many.
+pub fn later(rng: &mut Rng, table: &[u64]) -> Vec<u64> {
+    let mut prices = least_prices(table.iter().copied());
+    let mut labels = labels_of(table);
+    rng.shuffle(&mut labels);
+    let changes = rng.pick(&[4, 4 + table.len() / 2]);
+    for label in labels.into_iter().take(rng.below(changes)) {
+        prices.remove(&label);
+    }
+    for _ in 0..rng.below(changes) {
+        if prices.len() + 1 < table.len() {
+            prices.insert(rng.within(1, 3 * table.len()) as u32, price(rng));
+        }
+    }
+    layout(table.len(), &prices)
+}
+
+/// A torn image: the front of one table, and from cell `cut` on the rest of
+/// another of the same length.
+pub fn torn(front: &[u64], rest: &[u64], cut: usize) -> Vec<u64> {
+    [&front[..cut], &rest[cut..]].concat()
+}
+
+/// Puts a label into every empty cell: one that is at home there, so that the
+/// way rule holds as before, or any.
+pub fn fill(rng: &mut Rng, table: &mut [u64]) {
+    let cells = table.len();
+    let anywhere = rng.once_in(2);
+    for (at, cell) in table.iter_mut().enumerate() {
+        if *cell == EMPTY {
+            let label = match anywhere {
+                true => rng.within(1, 3 * cells),
+                false => cells * rng.within(1, 1000) + at,
+            };
+            *cell = content(label as u32, price(rng));
+        }
+    }
+}
+
+/// Writes over one cell: 0, another label, one with a price that none may have,
+/// or a price without a label.
+pub fn overwrite(rng: &mut Rng, table: &mut [u64]) {
+    let (at, cells) = (rng.below(table.len()), table.len());
+    let label = match label_of(table[rng.below(cells)]) {
+        0 => rng.within(1, 3 * cells) as u32,
+        standing => standing,
+    };
+    table[at] = match rng.below(8) {
+        0..=2 => EMPTY,
+        3..=5 => content(label, price(rng)),
+        6 => content(label, rng.pick(&WRONG_PRICES)),
+        _ => content(0, rng.pick(&[1, MAX_PRICE, u32::MAX])),
+    };
+}
+
+/// A table that comes back to the repair bench: sound, torn, full or with some
+/// cells written over, or several of these.
+pub fn returned(rng: &mut Rng, cells: usize) -> Vec<u64> {
+    let mut image = table(rng, cells);
+    let what = rng.below(8);
+    if matches!(what, 1..=3 | 7) {
+        let other = match rng.once_in(2) {
+            true => later(rng, &image),
+            false => table(rng, cells),
+        };
+        image = torn(&image, &other, rng.below(cells + 1));
+    }
+    if matches!(what, 4..=5 | 7) {
+        for _ in 0..rng.pick(&[1, 1, 2, 5]) {
+            overwrite(rng, &mut image);
+        }
+    }
+    if what == 6 || what == 7 && rng.once_in(4) {
+        fill(rng, &mut image);
+    }
+    image
 }
 
 /// The styles of chapters.

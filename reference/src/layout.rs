@@ -2,6 +2,8 @@
 
 use std::collections::BTreeMap;
 
+use crate::refusal;
+
 /// The content of an empty cell.
 pub const EMPTY: u64 = 0;
 
@@ -81,18 +83,55 @@ pub fn way_is_greater(table: &[u64], label: u32, at: usize) -> bool {
     }
 }
 
+/// The first content from the home of `label` on that isn't greater; there has
+/// to be one.
+fn first_not_greater(table: &[u64], label: u32) -> u64 {
+    let mut cell = home(label, table.len());
+    while label_of(table[cell]) > label {
+        cell = next(cell, table.len());
+    }
+    table[cell]
+}
+
+/// May a cell hold this: nothing, or a label with a price that it may have?
+fn is_content(cell: u64) -> bool {
+    cell == EMPTY || label_of(cell) != 0 && is_price(price_of(cell))
+}
+
 /// Is a cell empty, is every other one a label with a price that it may have,
-/// and does every label's way hold only greater labels?
+/// and does every label's way hold only greater labels? If not, the refusal:
+/// `UNSOUND` for a cell wrong by itself or for want of an empty one. Otherwise
+/// the lowest-numbered cell whose label breaks the way rule decides, by the
+/// first content on its way that isn't greater: `GAP` if that is 0, `DISORDER`
+/// if it is a label.
+pub fn soundness(table: &[u64]) -> Result<(), u8> {
+    if !table.contains(&EMPTY) {
+        return Err(refusal::UNSOUND);
+    }
+    for (at, &cell) in table.iter().enumerate() {
+        if cell == EMPTY {
+            continue;
+        }
+        if !is_content(cell) {
+            return Err(refusal::UNSOUND);
+        }
+        if !way_is_greater(table, label_of(cell), at) {
+            // A cell wrong by itself goes before, also one further on.
+            if !table[at..].iter().all(|&cell| is_content(cell)) {
+                return Err(refusal::UNSOUND);
+            }
+            return Err(match first_not_greater(table, label_of(cell)) {
+                EMPTY => refusal::GAP,
+                _ => refusal::DISORDER,
+            });
+        }
+    }
+    Ok(())
+}
+
+/// Is the table sound?
 pub fn is_sound(table: &[u64]) -> bool {
-    let stands = |at: usize, cell: u64| {
-        let label = label_of(cell);
-        label != 0 && is_price(price_of(cell)) && way_is_greater(table, label, at)
-    };
-    table.contains(&EMPTY)
-        && table
-            .iter()
-            .enumerate()
-            .all(|(at, &cell)| cell == EMPTY || stands(at, cell))
+    soundness(table).is_ok()
 }
 
 /// For each label its least price.

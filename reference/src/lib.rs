@@ -13,6 +13,7 @@ pub mod refusal {
     pub const SIZE: u8 = 1;
     pub const CREW: u8 = 2;
     pub const KIND: u8 = 3;
+    /// No cell is empty, or a cell is wrong by itself.
     pub const UNSOUND: u8 = 4;
     pub const OTHER_TABLE: u8 = 5;
     pub const NO_WORKER: u8 = 6;
@@ -26,4 +27,8 @@ pub mod refusal {
     pub const PRICE: u8 = 14;
     pub const NO_LINE: u8 = 15;
     pub const LONG_LIST: u8 = 16;
+    /// What decides on the way of a label is an empty cell.
+    pub const GAP: u8 = 17;
+    /// What decides on the way of a label is a label.
+    pub const DISORDER: u8 = 18;
 }

@@ -1,6 +1,6 @@
 //! Check, count and list; they need no shift.
 
-use crate::layout::{is_sound, label_of};
+use crate::layout::{label_of, soundness};
 use crate::phase::Phase;
 use crate::refusal;
 
@@ -12,10 +12,7 @@ pub fn check(table: &[u64]) -> Result<(), u8> {
     if !(Phase::MIN_CELLS..=Phase::MAX_CELLS).contains(&table.len()) {
         return Err(refusal::SIZE);
     }
-    if !is_sound(table) {
-        return Err(refusal::UNSOUND);
-    }
-    Ok(())
+    soundness(table)
 }
 
 /// The cells that hold a label, whole and in cell order.

@@ -1,7 +1,7 @@
 //! A shift (phase): its record, and the calls open, order, turn and close.
 
 use crate::layout::{
-    before, content, home, is_price, is_sound, label_of, next, price_of, way_passes, EMPTY,
+    before, content, home, is_price, label_of, next, price_of, soundness, way_passes, EMPTY,
 };
 use crate::refusal;
 
@@ -111,9 +111,7 @@ impl Phase {
         if kind == PUT_IN && orders.len() > Phase::MAX_ORDERS {
             return Err(refusal::LONG_LIST);
         }
-        if !is_sound(table) {
-            return Err(refusal::UNSOUND);
-        }
+        soundness(table)?;
         if kind == PUT_IN {
             for order in orders {
                 order.check(count)?;

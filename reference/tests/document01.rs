@@ -159,21 +159,24 @@ fn greatest_label() {
 
 #[test]
 fn unsound_tables() {
-    for table in [
-        [0, 0, 0, 8, 13],
-        [0, 0, 0, 3, 3],
-        [6, 0, 0, 0, 0],
-        [5, 6, 7, 8, 9],
+    // Which number it is comes from document 02.
+    for (table, number) in [
+        ([0, 0, 0, 8, 13], 18),
+        ([0, 0, 0, 3, 3], 18),
+        ([6, 0, 0, 0, 0], 17),
+        ([5, 6, 7, 8, 9], 4),
     ] {
         let table = cells(table);
         assert!(!is_sound(&table));
-        assert_eq!(check(&table), Err(4));
-        assert_eq!(count(&table), Err(4));
+        assert_eq!(check(&table), Err(number));
+        assert_eq!(count(&table), Err(number));
         let mut lent = [77; 1];
-        assert_eq!(list(&table, &mut lent), Err(4));
+        assert_eq!(list(&table, &mut lent), Err(number));
         assert!(list_front(&table, &mut lent).is_empty());
         assert_eq!(lent, [77]);
-        assert_eq!(open(1, 1, &table), Err(4));
+        for kind in 1..=3 {
+            assert_eq!(open(kind, 1, &table), Err(number));
+        }
     }
 }
 
@@ -713,7 +716,7 @@ fn run_fields() {
     );
 }
 
-/// A take-out in the middle of its work leaves a copy: list is refused 4.
+/// A take-out in the middle of its work leaves a copy: list is refused 18.
 #[test]
 fn list_in_an_open_shift() {
     assert_eq!(
@@ -722,6 +725,6 @@ fn list_in_an_open_shift() {
              order 0 8\nturn 0\nturn 0\nturn 0\nlist\nturn 0\nlist\nrun\nlist\n"
         ),
         "1 ok\n2 ok\n3 ok\n4 ok\n5 ok\n6 ok\n7 done done\n8 ok\n9 ok\n10 ok\n\
-         11 on\n12 on\n13 on\n14 2 8 1 3 1\n15 on\n16 refused 4\n17 done\n18 1 3 1\n"
+         11 on\n12 on\n13 on\n14 2 8 1 3 1\n15 on\n16 refused 18\n17 done\n18 1 3 1\n"
     );
 }

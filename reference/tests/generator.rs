@@ -177,12 +177,13 @@ fn sheets_reach_everything() {
     ] {
         assert!(words.get(word).is_some_and(|&n| n > 100), "{word}");
     }
-    // 5, 12, 13 and 16 can't come from a sheet; 4 only by a list.
-    for number in [1, 2, 3, 4, 6, 7, 8, 9, 10, 11, 14, 15] {
+    // 4, 5, 12, 13 and 16 can't come from a sheet; 18 and, very seldom, 17 come
+    // by a list while a take-out is at work.
+    for number in [1, 2, 3, 6, 7, 8, 9, 10, 11, 14, 15, 18] {
         let word = format!("refused {number}");
         assert!(words.get(&word).is_some_and(|&n| n > 30), "{word}");
     }
-    for number in [5, 12, 13, 16] {
+    for number in [4, 5, 12, 13, 16] {
         assert_eq!(words.get(&format!("refused {number}")), None);
     }
     assert!(several * 4 > sheets as usize * 3);

@@ -68,7 +68,7 @@ module _ (M : Model) (proper : Proper M) where
 
     -- in a put-in shift the labels at opening and those ordered are fewer than the cells
     pub roomy : k ≡ 1 → Roomy (length t) label t (events.after k (length t) m label (M .home (length t)) t (shown .0))
-    roomy = known k (length t) m (M .home (length t)) homes t (passed .sound) (passed .kind) os (λ is. passed .list is .room) (shown .0) history (shown .1)
+    roomy = known k (length t) m (M .home (length t)) homes t (passed .sound proper) (passed .kind) os (λ is. passed .list is .room) (shown .0) history (shown .1)
         (run-taken M k os (h .calls) (opening M k m t os) (opening-taken M proper k m t os (h .accepted))) .room
 
     claim : Claim M k m t os (h .calls)

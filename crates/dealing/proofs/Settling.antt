@@ -134,7 +134,7 @@ module _ (M : Model) (proper : Proper M) where
       let e : enough p ≡ suc (mostRest n m) = rw (cells M proper k m t os p u h, crew M proper k m t os p u h) in
       let idle = rounds-idle k n m (kinds k (passed M proper k m t os p u h .kind)) label (M .home n)
       (record { blank = refl; inside = homes M proper k m t os p u h }) t
-      (contents .priced n (M .home n) t (passed M proper k m t os p u h .sound)) es (roomy M proper k m t os p u h) in
+      (contents .priced n (M .home n) t (passed M proper k m t os p u h .sound proper)) es (roomy M proper k m t os p u h) in
       rw e (left-few k m t os (suc (mostRest n m)) (begun M p u) r
       (record {
         opened = record { from = h; running = up };

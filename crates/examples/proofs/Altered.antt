@@ -7,9 +7,10 @@ use lib.Dec.{T}
 use Rattle.ring.specs.Ring.{wrap, probe, dist, prev}
 use Rattle.ring.specs.Counting.{count}
 use Rattle.layout.specs.Layout.{In, into, descending}
-use Rattle.layout.specs.Sound.{all, some, clear, isSound}
-use Rattle.prices.specs.Contents.{label, isSoundTable}
+use Rattle.ring.specs.Each.{all, some, first}
+use Rattle.prices.specs.Contents.{label}
 use Rattle.prices.specs.Priced.{labels}
+use Rattle.flaws.specs.Flaws.{meetsEmpty, meetsKey}
 use Rattle.orders.specs.Orders.{lineFault, linesFault}
 use Rattle.rule.specs.Rule.{settled, absorbed, insertStep, findStep, deleteStep, rule}
 use Rattle.rule.specs.Schedules.{sameTable, one, ones}
@@ -28,32 +29,32 @@ use Rattle.examples.specs.Altered.{overfull, threeKeys, takenOut, Altere
 use Rattle.examples.proofs.Passing.{codeOf, same-activity}
 
 ordered-tested : T (sameTable (overfull .ordered) (ones (4 ∷ 5 ∷ 3 ∷ [])))
-unfolding sameTable call run runLent isWellFormed rule settled absorbed insertStep findStep deleteStep isSoundTable isSound all some clear dist probe prev wrap count
-    into descending lineFault linesFault
+unfolding sameTable call run runLent isWellFormed rule settled absorbed insertStep findStep deleteStep meetsEmpty meetsKey first all some dist probe
+    prev wrap count into descending lineFault linesFault
 ordered-tested = tt
 
 ordered-is : overfull .ordered ≡ ones (4 ∷ 5 ∷ 3 ∷ [])
 ordered-is = same-table (overfull .ordered) (ones (4 ∷ 5 ∷ 3 ∷ [])) ordered-tested
 
 opens : openReply gateway 1 1 (0 ∷ 0 ∷ []) (oneLine 3 1 0) ≡ Accepted
-unfolding isSoundTable isSound all some clear dist probe prev wrap count into descending lineFault linesFault
+unfolding meetsEmpty meetsKey first all some dist probe prev wrap count into descending lineFault linesFault
 opens = refl
 
 opens-delete : openReply gateway 2 1 (ones (0 ∷ 7 ∷ [])) [] ≡ Accepted
-unfolding isSoundTable isSound all some clear dist probe prev wrap count
+unfolding meetsEmpty meetsKey first all some dist probe prev wrap count
 opens-delete = refl
 
 three-ordered : In 3 (labels label (overfull .ordered))
 three-ordered = rw ordered-is (inr (inr (inl refl)))
 
 table-is : T (sameTable (overfull .table) (ones (4 ∷ 5 ∷ [])))
-unfolding sameTable call run runLent isWellFormed rule settled absorbed insertStep findStep deleteStep isSoundTable isSound all some clear dist probe prev wrap count
-    into descending lineFault linesFault
+unfolding sameTable call run runLent isWellFormed rule settled absorbed insertStep findStep deleteStep meetsEmpty meetsKey first all some dist probe
+    prev wrap count into descending lineFault linesFault
 table-is = tt
 
 carried-is : T (sameTable (codeOf (doing (overfull .phase) 0)) (codeOf (Reading (one 3) 1)))
-unfolding sameTable codeOf call run runLent isWellFormed rule settled absorbed insertStep findStep deleteStep isSoundTable isSound all some clear dist probe prev wrap
-    count into descending lineFault linesFault
+unfolding sameTable codeOf call run runLent isWellFormed rule settled absorbed insertStep findStep deleteStep meetsEmpty meetsKey first all some dist probe
+    prev wrap count into descending lineFault linesFault
 carried-is = tt
 
 pub altered : Altered

@@ -9,16 +9,20 @@ use native.Mathlib.Omega.{arith}
 use lib.Dec.{T, eqb}
 use lib.ListN.{length, getD}
 use Rattle.ring.specs.Counting.{count}
-use Rattle.ring.specs.Ring.{wrap, dist, prev}
+use Rattle.ring.specs.Ring.{wrap, probe, dist, prev}
 use Rattle.layout.specs.Home.{modulo}
 use Rattle.layout.specs.Layout.{In, into, descending, size, listed}
-use Rattle.layout.specs.Sound.{Holds, all, some, clear, isSound}
+use Rattle.ring.specs.Each.{all, some, first}
+use Rattle.layout.specs.Sound.{Holds}
 use Rattle.layout.proofs.Sets.{held-in, in-holds}
-use Rattle.prices.specs.Contents.{label, content, SoundTable, isSoundTable}
+use Rattle.prices.specs.Contents.{label, content, SoundTable}
 use Rattle.prices.specs.Priced.{labels, lesser, least, Least, SameLeast, PricedSound, pricedLayout, withoutLabels}
 use Rattle.prices.proofs.Contents.{contents}
 use Rattle.prices.proofs.Labels.{in-labels}
 use Rattle.prices.proofs.Theorem.{theorem as layouts}
+use Rattle.flaws.specs.Flaws.{meetsEmpty, meetsKey}
+use Rattle.flaws.specs.Promise.{Intact, Damaged, Gapped, Disordered, FirstOnPath}
+use Rattle.flaws.proofs.Theorem.{theorem as flaws}
 use Rattle.orders.specs.Orders.{lineFault, linesFault}
 use Rattle.orders.specs.declared.Order.{Order}
 use Rattle.words.specs.Promise.{keysBefore}
@@ -44,9 +48,10 @@ use Rattle.state.proofs.Model.{gateway-proper}
 use Rattle.protocol.specs.Bars.{doing}
 use Rattle.protocol.specs.Calls.{turnCheck}
 use Rattle.protocol.specs.IsWellFormed.{isWellFormed}
+use Rattle.protocol.specs.Promise.{Soundness}
 use Rattle.protocol.specs.WellFormed.{Size}
 use Rattle.protocol.proofs.Soundness.{sounds}
-use Rattle.tables.specs.Calls.{countNumber, listCall, listAfter, listFront}
+use Rattle.tables.specs.Calls.{countNumber, checkCall, listCall, listAfter, listFront}
 use Rattle.tables.proofs.Theorem.{theorem as tables}
 use Rattle.history.specs.History.{turn, worked, call, run, turnReplies, opening, after}
 use Rattle.history.specs.Promise.{entriesAfter, Alike, Claim}
@@ -55,73 +60,76 @@ use Rattle.history.proofs.Theorem as histories
 use Rattle.examples.specs.Forms.{emptyCells, handed, callsOf}
 use Rattle.examples.specs.Limits.{twoGroups}
 use Rattle.examples.specs.Orders.{oneLine, wrongLines}
+use Rattle.examples.specs.Repairs.{gapped, disordered, full, torn, oldImage, newImage}
 use Rattle.examples.specs.Examples.{four, atPrices, sheetItems, sheetPutsIn, looksUp, anyLine}
 use Rattle.examples.specs.Corollaries.{turnsOf, rounds, together, inSequence, oneOrdered, halfPutIn, threeItems, threePutIn}
 use Rattle.examples.specs.Corollaries.{eventsTogether, eventsInSequence, takenOut, halfTaken, withThirteen, thirteenOut, sayingAt}
 use Rattle.examples.specs.Corollaries.{priceItems, twoPrice, morePriceItems, threePrice, halfPriced, repriceItems, repriced, thePriceItems, thePrices}
-use Rattle.examples.specs.Corollaries.{fewWorkers, manyWorkers, altered, fourKeys, sixPlaces, Corollaries}
+use Rattle.examples.specs.Corollaries.{fewWorkers, manyWorkers, altered, fourKeys, sixPlaces, twoInOrder, Corollaries}
+use Rattle.examples.proofs.Sound.{sound-says}
 use Rattle.examples.proofs.Members.{apart, is-in, not-in, allIn, leastIn, same-prices, is-least, ownLeast, own-least, same-keys, same-orders, right-at}
+use Rattle.examples.proofs.Unsound.{disordered-intact, gapped-intact, full-damaged, gapped-is, disordered-is, behind-thirteen, in-order}
 
 -- ---- openings
 four-opens : (openReply gateway 2 2 four [] ≡ Accepted) × (openReply gateway 2 1 four [] ≡ Accepted)
-unfolding isSoundTable isSound all some clear dist wrap
+unfolding meetsEmpty meetsKey first all some dist probe wrap
 four-opens = (refl, refl)
 
 four-looks : openReply gateway 3 2 four [] ≡ Accepted
-unfolding isSoundTable isSound all some clear dist wrap
+unfolding meetsEmpty meetsKey first all some dist probe wrap
 four-looks = refl
 
 sheet-opens : (openReply gateway 1 2 (emptyCells 5) sheetItems ≡ Accepted) × (openReply gateway 1 3 (emptyCells 5) threeItems ≡ Accepted)
-unfolding lineFault linesFault descending into isSoundTable isSound all some clear dist wrap
+unfolding lineFault linesFault descending into meetsEmpty meetsKey first all some dist probe wrap
 sheet-opens = (refl, refl)
 
 empty-opens : (openReply gateway 1 2 (emptyCells 5) priceItems ≡ Accepted)
     × (openReply gateway 1 3 (emptyCells 5) morePriceItems ≡ Accepted)
     × (openReply gateway 1 2 (emptyCells 5) thePriceItems ≡ Accepted)
-unfolding lineFault linesFault descending into isSoundTable isSound all some clear dist wrap
+unfolding lineFault linesFault descending into meetsEmpty meetsKey first all some dist probe wrap
 empty-opens = (refl, refl, refl)
 
 prices-open : (openReply gateway 1 2 atPrices repriceItems ≡ Accepted)
     × (openReply gateway 2 1 atPrices [] ≡ Accepted)
     × (openReply gateway 3 2 atPrices wrongLines ≡ Accepted)
-unfolding lineFault linesFault descending into isSoundTable isSound all some clear dist wrap
+unfolding lineFault linesFault descending into meetsEmpty meetsKey first all some dist probe wrap
 prices-open = (refl, refl, refl)
 
 thirteen-opens : openReply gateway 2 1 withThirteen [] ≡ Accepted
-unfolding isSoundTable isSound all some clear dist wrap
+unfolding meetsEmpty meetsKey first all some dist probe wrap
 thirteen-opens = refl
 
 four-refused : (os : List Order) → openReply gateway 4 1 four os ≢ Accepted
-unfolding isSoundTable isSound all some clear dist wrap
+unfolding meetsEmpty meetsKey first all some dist probe wrap
 four-refused os e = let z : _≡_ {A = ℕ} 3 0 = ap replyNumber e in omega arith
 
 seven-refused : openReply gateway 1 1 (ones (0 ∷ 7 ∷ [])) (oneLine 4 1 0) ≢ Accepted
-unfolding lineFault linesFault descending into isSoundTable isSound all some clear dist wrap
+unfolding lineFault linesFault descending into meetsEmpty meetsKey first all some dist probe wrap
 seven-refused e = let z : _≡_ {A = ℕ} 9 0 = ap replyNumber e in omega arith
 
 -- ---- the lists of calls are closed, and order the same keys
 take-out-closed : (after gateway 2 2 four [] together .closed ≡ true) × (after gateway 2 1 four [] inSequence .closed ≡ true)
-unfolding turnsOf rounds run call isWellFormed isSoundTable isSound all some clear dist wrap prev rule deleteStep fits narrow
+unfolding turnsOf rounds run call isWellFormed meetsEmpty meetsKey first all some dist probe wrap prev rule deleteStep fits narrow
 take-out-closed = (refl, refl)
 
 take-out-keys : SameOrders 2 label (after gateway 2 2 four [] together .ordered) (after gateway 2 1 four [] inSequence .ordered)
-unfolding allIn listed turnsOf rounds run call isWellFormed isSoundTable isSound all some clear dist wrap prev rule deleteStep fits narrow
+unfolding allIn listed turnsOf rounds run call isWellFormed meetsEmpty meetsKey first all some dist probe wrap prev rule deleteStep fits narrow
 take-out-keys = same-keys 2 (λ z. omega arith) (after gateway 2 2 four [] together .ordered) (after gateway 2 1 four [] inSequence .ordered) tt tt
 
 take-out-ordered : after gateway 2 2 four [] together .ordered ≡ content 8 0 ∷ content 13 0 ∷ []
-unfolding turnsOf rounds run call isWellFormed isSoundTable isSound all some clear dist wrap prev rule deleteStep fits narrow
+unfolding turnsOf rounds run call isWellFormed meetsEmpty meetsKey first all some dist probe wrap prev rule deleteStep fits narrow
 take-out-ordered = refl
 
 put-in-closed : (after gateway 1 2 (emptyCells 5) sheetItems (callsOf sheetPutsIn) .closed ≡ true)
     × (after gateway 1 3 (emptyCells 5) threeItems threePutIn .closed ≡ true)
 unfolding turnsOf rounds run call isWellFormed
-    lineFault linesFault descending into isSoundTable isSound all some clear dist wrap rule settled absorbed insertStep
+    lineFault linesFault descending into meetsEmpty meetsKey first all some dist probe wrap rule settled absorbed insertStep
 put-in-closed = (refl, refl)
 
 put-in-keys : SameOrders 1 label (after gateway 1 2 (emptyCells 5) sheetItems (callsOf sheetPutsIn) .ordered)
     (after gateway 1 3 (emptyCells 5) threeItems threePutIn .ordered)
 unfolding leastIn listed lesser least turnsOf rounds run call isWellFormed
-    lineFault linesFault descending into isSoundTable isSound all some clear dist wrap rule settled absorbed insertStep
+    lineFault linesFault descending into meetsEmpty meetsKey first all some dist probe wrap rule settled absorbed insertStep
 put-in-keys =
     same-orders 1 (after gateway 1 2 (emptyCells 5) sheetItems (callsOf sheetPutsIn) .ordered)
     (after gateway 1 3 (emptyCells 5) threeItems threePutIn .ordered) tt tt
@@ -129,46 +137,46 @@ put-in-keys =
 prices-closed : (after gateway 1 2 (emptyCells 5) priceItems twoPrice .closed ≡ true)
     × (after gateway 1 3 (emptyCells 5) morePriceItems threePrice .closed ≡ true)
 unfolding turnsOf rounds run call isWellFormed
-    lineFault linesFault descending into isSoundTable isSound all some clear dist wrap rule settled absorbed insertStep
+    lineFault linesFault descending into meetsEmpty meetsKey first all some dist probe wrap rule settled absorbed insertStep
 prices-closed = (refl, refl)
 
 prices-keys : SameOrders 1 label (after gateway 1 2 (emptyCells 5) priceItems twoPrice .ordered)
     (after gateway 1 3 (emptyCells 5) morePriceItems threePrice .ordered)
 unfolding leastIn listed lesser least turnsOf rounds run call isWellFormed
-    lineFault linesFault descending into isSoundTable isSound all some clear dist wrap rule settled absorbed insertStep
+    lineFault linesFault descending into meetsEmpty meetsKey first all some dist probe wrap rule settled absorbed insertStep
 prices-keys =
     same-orders 1 (after gateway 1 2 (emptyCells 5) priceItems twoPrice .ordered)
     (after gateway 1 3 (emptyCells 5) morePriceItems threePrice .ordered) tt tt
 
 the-prices-closed : after gateway 1 2 (emptyCells 5) thePriceItems thePrices .closed ≡ true
 unfolding turnsOf rounds run call isWellFormed
-    lineFault linesFault descending into isSoundTable isSound all some clear dist wrap rule settled absorbed insertStep
+    lineFault linesFault descending into meetsEmpty meetsKey first all some dist probe wrap rule settled absorbed insertStep
 the-prices-closed = refl
 
 thirteen-closed : after gateway 2 1 withThirteen [] thirteenOut .closed ≡ true
-unfolding turnsOf rounds run call isWellFormed isSoundTable isSound all some clear dist wrap prev rule deleteStep fits narrow
+unfolding turnsOf rounds run call isWellFormed meetsEmpty meetsKey first all some dist probe wrap prev rule deleteStep fits narrow
 thirteen-closed = refl
 
 -- 13 taken out of the one table, 8 and 3 put into the other
 left-over : SameLeast label (entriesAfter 2 (after gateway 2 1 withThirteen [] thirteenOut .ordered) withThirteen)
     (entriesAfter 1 (after gateway 1 2 (emptyCells 5) thePriceItems thePrices .ordered) (emptyCells 5))
-unfolding withoutLabels leastIn listed lesser least turnsOf rounds run call
-    isWellFormed lineFault linesFault descending into isSoundTable isSound all some clear dist wrap prev rule settled absorbed insertStep deleteStep fits narrow
+unfolding withoutLabels leastIn listed lesser least turnsOf rounds run call isWellFormed lineFault linesFault descending into
+    meetsEmpty meetsKey first all some dist probe wrap prev rule settled absorbed insertStep deleteStep fits narrow
 left-over = same-prices (entriesAfter 2 (after gateway 2 1 withThirteen [] thirteenOut .ordered) withThirteen)
     (entriesAfter 1 (after gateway 1 2 (emptyCells 5) thePriceItems thePrices .ordered) (emptyCells 5)) tt tt
 
 none-ordered : after gateway 2 2 four [] (turn 0 ∷ handed 1 0 ∷ handed 2 8 ∷ turn 1 ∷ []) .ordered ≡ []
-unfolding run call isWellFormed isSoundTable isSound all some clear dist wrap
+unfolding run call isWellFormed meetsEmpty meetsKey first all some dist probe wrap
 none-ordered = refl
 
 -- ---- lists that are not closed
 one-pending : (getD (after gateway 2 2 four [] oneOrdered .pending) 0 0 ≡ content 13 0) × (getD (after gateway 2 2 four [] oneOrdered .pending) 1 0 ≡ 0)
-unfolding run call isWellFormed isSoundTable isSound all some clear dist wrap
+unfolding run call isWellFormed meetsEmpty meetsKey first all some dist probe wrap
 one-pending = (refl, refl)
 
 -- the answers of the turns, counted
 turns-worked : count worked (turnReplies gateway [] together (opening gateway 2 2 four [])) ≡ 27
-unfolding turnReplies turnsOf rounds run call isWellFormed isSoundTable isSound all some clear dist wrap prev count rule deleteStep fits narrow
+unfolding turnReplies turnsOf rounds run call isWellFormed meetsEmpty meetsKey first all some dist probe wrap prev count rule deleteStep fits narrow
 turns-worked = refl
 
 take-out-claim : Claim gateway 2 2 four [] together
@@ -185,24 +193,24 @@ look-claim = histories.history gateway gateway-proper 3 2 four [] four-looks (ca
 
 half-ordered : In 3 (labels label (after gateway 1 2 (emptyCells 5) sheetItems halfPutIn .ordered))
 unfolding listed turnsOf rounds run call isWellFormed
-    lineFault linesFault descending into isSoundTable isSound all some clear dist wrap rule settled absorbed insertStep
+    lineFault linesFault descending into meetsEmpty meetsKey first all some dist probe wrap rule settled absorbed insertStep
 half-ordered = is-in 3 (labels label (after gateway 1 2 (emptyCells 5) sheetItems halfPutIn .ordered)) tt
 
 -- not closed, and worker 0 is idle again
 half-open : (after gateway 1 2 (emptyCells 5) sheetItems halfPutIn .closed ≡ false)
     × (doing (after gateway 1 2 (emptyCells 5) sheetItems halfPutIn .phase) 0 ≡ Idle)
 unfolding turnsOf rounds run call isWellFormed
-    lineFault linesFault descending into isSoundTable isSound all some clear dist wrap rule settled absorbed insertStep
+    lineFault linesFault descending into meetsEmpty meetsKey first all some dist probe wrap rule settled absorbed insertStep
 half-open = (refl, refl)
 
 three-unordered : In 3 (labels label (after gateway 2 2 four [] together .ordered)) → ⊥
-unfolding listed turnsOf rounds run call isWellFormed isSoundTable isSound all some clear dist wrap prev rule deleteStep fits narrow
+unfolding listed turnsOf rounds run call isWellFormed meetsEmpty meetsKey first all some dist probe wrap prev rule deleteStep fits narrow
 three-unordered = not-in 3 (labels label (after gateway 2 2 four [] together .ordered)) tt
 
 -- 4 was ordered once, and its order has finished
 four-looked : (count (λ x. eqb (label x) 4) (after gateway 3 2 four [] (callsOf looksUp) .pending) ≡ 0)
     × (count (λ x. eqb (label x) 4) (after gateway 3 2 four [] (callsOf looksUp) .ordered) ≡ 1)
-unfolding run call isWellFormed isSoundTable isSound all some clear dist wrap count rule findStep
+unfolding run call isWellFormed meetsEmpty meetsKey first all some dist probe wrap count rule findStep
 four-looked = (refl, refl)
 
 -- ---- prices
@@ -227,7 +235,7 @@ price-claim = histories.history gateway gateway-proper 3 2 atPrices wrongLines (
 -- the least and a greater price ordered for 8
 eight-least : Least label (after gateway 1 2 (emptyCells 5) priceItems twoPrice .ordered ++ emptyCells 5) (content 8 3)
 unfolding listed lesser least turnsOf rounds run call isWellFormed
-    lineFault linesFault descending into isSoundTable isSound all some clear dist wrap rule settled absorbed insertStep
+    lineFault linesFault descending into meetsEmpty meetsKey first all some dist probe wrap rule settled absorbed insertStep
 eight-least =
     let xs = after gateway 1 2 (emptyCells 5) priceItems twoPrice .ordered ++ emptyCells 5 in
     is-least xs (content 8 3) (apart 8 0 tt) (is-in (content 8 3) xs tt) tt
@@ -237,26 +245,26 @@ eight-dearer l = let z : content 8 5 ≤ content 8 3 = l .most (content 8 3) (ei
 
 half-least : Least label (after gateway 1 2 (emptyCells 5) priceItems halfPriced .ordered ++ emptyCells 5) (content 8 3)
 unfolding listed lesser least turnsOf rounds run call isWellFormed
-    lineFault linesFault descending into isSoundTable isSound all some clear dist wrap rule settled absorbed insertStep
+    lineFault linesFault descending into meetsEmpty meetsKey first all some dist probe wrap rule settled absorbed insertStep
 half-least =
     let xs = after gateway 1 2 (emptyCells 5) priceItems halfPriced .ordered ++ emptyCells 5 in
     is-least xs (content 8 3) (apart 8 0 tt) (is-in (content 8 3) xs tt) tt
 
 never-ordered : In (content 8 4) (after gateway 1 2 (emptyCells 5) priceItems halfPriced .ordered ++ emptyCells 5) → ⊥
 unfolding listed turnsOf rounds run call isWellFormed
-    lineFault linesFault descending into isSoundTable isSound all some clear dist wrap rule settled absorbed insertStep
+    lineFault linesFault descending into meetsEmpty meetsKey first all some dist probe wrap rule settled absorbed insertStep
 never-ordered = not-in (content 8 4) (after gateway 1 2 (emptyCells 5) priceItems halfPriced .ordered ++ emptyCells 5) tt
 
 -- 8 keeps its price at opening, 3 gets a lower one
 repriced-closed : after gateway 1 2 atPrices repriceItems repriced .closed ≡ true
 unfolding turnsOf rounds run call isWellFormed
-    lineFault linesFault descending into isSoundTable isSound all some clear dist wrap rule settled absorbed insertStep
+    lineFault linesFault descending into meetsEmpty meetsKey first all some dist probe wrap rule settled absorbed insertStep
 repriced-closed = refl
 
 repriced-least : Least label (after gateway 1 2 atPrices repriceItems repriced .ordered ++ atPrices) (content 8 9)
     × Least label (after gateway 1 2 atPrices repriceItems repriced .ordered ++ atPrices) (content 3 2)
 unfolding listed lesser least turnsOf rounds run call isWellFormed
-    lineFault linesFault descending into isSoundTable isSound all some clear dist wrap rule settled absorbed insertStep
+    lineFault linesFault descending into meetsEmpty meetsKey first all some dist probe wrap rule settled absorbed insertStep
 repriced-least =
     let xs = after gateway 1 2 atPrices repriceItems repriced .ordered ++ atPrices in (
       is-least xs (content 8 9) (apart 8 0 tt) (is-in (content 8 9) xs tt) tt,
@@ -268,16 +276,16 @@ three-dearer l = let z : content 3 7 ≤ content 3 2 = l .most (content 3 2) (re
 
 -- taken out: 8 was ordered, 3 was not
 taken-closed : after gateway 2 1 atPrices [] takenOut .closed ≡ true
-unfolding turnsOf rounds run call isWellFormed isSoundTable isSound all some clear dist wrap prev rule deleteStep fits narrow
+unfolding turnsOf rounds run call isWellFormed meetsEmpty meetsKey first all some dist probe wrap prev rule deleteStep fits narrow
 taken-closed = refl
 
 eight-taken : In 8 (labels label (after gateway 2 1 atPrices [] takenOut .ordered))
-unfolding listed turnsOf rounds run call isWellFormed isSoundTable isSound all some clear dist wrap prev rule deleteStep fits narrow
+unfolding listed turnsOf rounds run call isWellFormed meetsEmpty meetsKey first all some dist probe wrap prev rule deleteStep fits narrow
 eight-taken = is-in 8 (labels label (after gateway 2 1 atPrices [] takenOut .ordered)) tt
 
 three-kept : (In 3 (labels label (after gateway 2 1 atPrices [] takenOut .ordered)) → ⊥)
     × (In 3 (labels label (after gateway 2 1 atPrices [] halfTaken .ordered)) → ⊥)
-unfolding listed turnsOf rounds run call isWellFormed isSoundTable isSound all some clear dist wrap prev rule deleteStep fits narrow
+unfolding listed turnsOf rounds run call isWellFormed meetsEmpty meetsKey first all some dist probe wrap prev rule deleteStep fits narrow
 three-kept = (
   not-in 3 (labels label (after gateway 2 1 atPrices [] takenOut .ordered)) tt,
   not-in 3 (labels label (after gateway 2 1 atPrices [] halfTaken .ordered)) tt,
@@ -295,7 +303,7 @@ no-three = not-in (content 3 8) atPrices tt
 looked : (1 < length (after gateway 3 2 atPrices wrongLines (callsOf anyLine) .said))
     × (label (sayingAt (after gateway 3 2 atPrices wrongLines (callsOf anyLine) .said) 0 .wanted) ≡ 4)
     × (label (sayingAt (after gateway 3 2 atPrices wrongLines (callsOf anyLine) .said) 1 .wanted) ≡ 3)
-unfolding run call isWellFormed isSoundTable isSound all some clear dist wrap rule findStep
+unfolding run call isWellFormed meetsEmpty meetsKey first all some dist probe wrap rule findStep
 looked = (omega arith, refl, refl)
 
 three-sold : Sold label atPrices 3 7
@@ -337,19 +345,20 @@ events-keys =
 
 -- ---- tables
 four-sound : SoundTable 5 (modulo 5) four
-unfolding isSoundTable isSound all some clear dist wrap
-four-sound = contents .test 5 (modulo 5) four .0 tt
+unfolding meetsEmpty meetsKey first all some dist probe wrap
+four-sound = sound-says four .0 tt
 
 four-priced : PricedSound 5 label (modulo 5) four
 four-priced = contents .priced 5 (modulo 5) four four-sound
 
-eight-unsound : SoundTable 5 (modulo 5) (ones (0 ∷ 0 ∷ 0 ∷ 8 ∷ 13 ∷ [])) → ⊥
-unfolding isSoundTable isSound all some clear dist wrap
-eight-unsound s = contents .test 5 (modulo 5) (ones (0 ∷ 0 ∷ 0 ∷ 8 ∷ 13 ∷ [])) .1 s
+four-in-words : Soundness gateway four
+four-in-words = sounds .words gateway four .0 four-sound
 
-price-unsound : SoundTable 5 (modulo 5) (0 ∷ 0 ∷ 0 ∷ content 8 10000000 ∷ 0 ∷ []) → ⊥
-unfolding isSoundTable isSound all some clear dist wrap
-price-unsound s = contents .test 5 (modulo 5) (0 ∷ 0 ∷ 0 ∷ content 8 10000000 ∷ 0 ∷ []) .1 s
+four-kinds : Intact four × (Gapped (modulo 5) four → ⊥) × (Disordered (modulo 5) four → ⊥)
+four-kinds = sounds .kinds gateway gateway-proper four .0 four-in-words
+
+priced-damaged : Damaged (0 ∷ 0 ∷ 0 ∷ content 8 10000000 ∷ 0 ∷ [])
+priced-damaged = inr (record { cell = 3; inside = omega arith; filled = apart (content 8 10000000) 0 tt; wrong = inr (inr (omega arith)) })
 
 five-rules : Rules 5 label (modulo 5)
 five-rules = record { blank = refl; inside = λ x. mod-lt x (zero-lt-suc 4) }
@@ -365,6 +374,35 @@ four-size = refl
 
 five-cells : Size gateway 5
 five-cells = (omega arith, omega arith)
+
+-- ---- the kinds of unsound
+homes : (x : ℕ) → modulo 5 x < 5
+homes x = mod-lt x (zero-lt-suc 4)
+
+two-intact : Intact twoInOrder
+unfolding all some
+two-intact = flaws .kinds (modulo 5) twoInOrder .intact .0 refl
+
+-- of none
+two-kinds : Intact twoInOrder × (Gapped (modulo 5) twoInOrder → ⊥) × (Disordered (modulo 5) twoInOrder → ⊥)
+two-kinds = (two-intact, λ d. in-order (d .cell) (d .steps) (d .breaks), λ d. in-order (d .cell) (d .steps) (d .breaks))
+
+-- 8 in cell 0 meets the empty cell 4, behind 13
+decides-on-way : FirstOnPath 5 (modulo 5) (8 ∷ 0 ∷ 0 ∷ 13 ∷ 0 ∷ []) 0 4
+unfolding probe wrap
+decides-on-way = flaws .ways 5 (modulo 5) (8 ∷ 0 ∷ 0 ∷ 13 ∷ 0 ∷ []) (λ _. homes) .first 0 1 behind-thirteen
+
+torn-gap : meetsEmpty (modulo 5) (torn 2 oldImage (emptyCells 5)) ≡ true
+unfolding meetsEmpty first dist probe wrap
+torn-gap = refl
+
+torn-disorder : meetsKey (modulo 5) (torn 1 oldImage newImage) ≡ true
+unfolding meetsKey first dist probe wrap
+torn-disorder = refl
+
+prices-pass : replyNumber (checkCall gateway atPrices) ≡ 0
+unfolding meetsEmpty meetsKey first all some dist probe wrap
+prices-pass = refl
 
 -- its entries are the least ones of its keys in any order
 four-same : SameLeast label four fourKeys
@@ -395,15 +433,35 @@ other-place c ne e = let z : c ≡ 4 = cc in ne z
 -- ---- listing
 list-accepted : countNumber (listCall gateway four sixPlaces) ≡ 0
 list-accepted =
-    let (_, (_, (_, none))) = tables gateway gateway-proper four sixPlaces .list in
+    let (_, (_, (_, (_, (_, none))))) = tables gateway gateway-proper four sixPlaces .list in
+    let (whole, gapless, ordered) = four-kinds in
     let l : size (labels label four) ≤ 6 = omega (arith, four-size) in
-    none .1 (((tt, five-cells), sounds gateway four .0 four-sound), l)
+    none .1 (((((tt, five-cells), whole), gapless), ordered), l)
 
 list-short : countNumber (listCall gateway four (70 ∷ 71 ∷ 72 ∷ [])) ≡ 12
 list-short =
-    let (_, (_, (twelve, _))) = tables gateway gateway-proper four (70 ∷ 71 ∷ 72 ∷ []) .list in
+    let (_, (_, (_, (_, (twelve, _))))) = tables gateway gateway-proper four (70 ∷ 71 ∷ 72 ∷ []) .list in
+    let (whole, gapless, ordered) = four-kinds in
     let l : 3 < size (labels label four) = omega (arith, four-size) in
-    twelve .1 (((tt, five-cells), sounds gateway four .0 four-sound), l)
+    twelve .1 (((((tt, five-cells), whole), gapless), ordered), l)
+
+-- ---- the check
+check-disorder : replyNumber (checkCall gateway disordered) ≡ 18
+check-disorder =
+    let (_, (_, (_, (eighteen, _)))) = tables gateway gateway-proper disordered [] .check in
+    eighteen .1 ((((tt, five-cells), disordered-intact), λ g. flaws .kinds (modulo 5) disordered .apart g disordered-is), disordered-is)
+
+check-gap : replyNumber (checkCall gateway gapped) ≡ 17
+check-gap =
+    let (_, (_, (seventeen, _))) = tables gateway gateway-proper gapped [] .check in
+    seventeen .1 (((tt, five-cells), gapped-intact), gapped-is)
+
+-- without an empty cell, and with a price out of range
+check-four : (replyNumber (checkCall gateway full) ≡ 4) × (replyNumber (checkCall gateway (0 ∷ 0 ∷ 0 ∷ content 8 10000000 ∷ 0 ∷ [])) ≡ 4)
+check-four =
+    let (_, (four-full, _)) = tables gateway gateway-proper full [] .check in
+    let (_, (four-price, _)) = tables gateway gateway-proper (0 ∷ 0 ∷ 0 ∷ content 8 10000000 ∷ 0 ∷ []) [] .check in
+    (four-full .1 ((tt, five-cells), full-damaged), four-price .1 ((tt, five-cells), priced-damaged))
 
 enough : countOf twoGroups ≤ 6
 enough = let e : countOf twoGroups ≡ 4 = count-occupied twoGroups in omega arith
@@ -446,7 +504,7 @@ corollaries =
           (empty-opens .2) thirteenOut thePrices left-over thirteen-closed the-prices-closed;
       sound = subst (λ (n : ℕ). SoundTable n (modulo n) (after gateway 1 2 (emptyCells 5) priceItems twoPrice .table)) (priced-claim .numbers .sized)
           (priced-claim .sound (prices-closed .0));
-      sound-in-words = sounds gateway (after gateway 1 2 (emptyCells 5) priceItems twoPrice .table) .0 (priced-claim .sound (prices-closed .0));
+      sound-in-words = sounds .words gateway (after gateway 1 2 (emptyCells 5) priceItems twoPrice .table) .0 (priced-claim .sound (prices-closed .0));
       right-cells = half-priced-claim .cells;
       cheapest = priced-claim .cheapest refl (prices-closed .0) (content 8 3) (apart 8 0 tt) .1 eight-least;
       not-dearer = λ i. eight-dearer (priced-claim .cheapest refl (prices-closed .0) (content 8 5) (apart 8 0 tt) .0 i);
@@ -490,11 +548,29 @@ corollaries =
       other-cells = λ c ne. alike .other-cells c (other-place c ne);
       other-workers = alike .other-workers;
       one-layout = layouts 5 label (modulo 5) (five-rules .blank) (five-rules .inside) .unique fourKeys four four-priced four-keys;
-      passes = tables gateway gateway-proper four [] .check .1 .1 .1 ((tt, five-cells), sounds gateway four .0 four-sound);
-      refuses = tables gateway gateway-proper (ones (0 ∷ 0 ∷ 0 ∷ 8 ∷ 13 ∷ [])) [] .check .1 .0 .1 ((tt, five-cells), λ s. eight-unsound (sounds gateway (ones (0 ∷ 0 ∷ 0 ∷ 8 ∷ 13 ∷ [])) .1 s));
-      refuses-price =
-          tables gateway gateway-proper (0 ∷ 0 ∷ 0 ∷ content 8 10000000 ∷ 0 ∷ []) [] .check .1 .0 .1 ((tt, five-cells), λ s. price-unsound (sounds gateway (0 ∷ 0 ∷ 0 ∷ content 8 10000000 ∷ 0 ∷ []) .1 s));
-      count = tables gateway gateway-proper four [] .count-true (five-cells, sounds gateway four .0 four-sound) ∙ four-size;
+      passes = tables gateway gateway-proper four [] .passes .1 (five-cells, four-in-words);
+      passed-sound = tables gateway gateway-proper atPrices [] .passes .0 prices-pass .1;
+      refuses-disorder = check-disorder;
+      refuses-gap = check-gap;
+      refuses-full = check-four .0;
+      refuses-price = check-four .1;
+      count = tables gateway gateway-proper four [] .count-true (five-cells, four-in-words) ∙ four-size;
+      intact-passes = flaws .kinds (modulo 5) disordered .intact .1 disordered-intact;
+      gap-passes = flaws .kinds (modulo 5) gapped .gapped .1 gapped-is;
+      disorder-passes = flaws .kinds (modulo 5) disordered .disordered .1 disordered-is;
+      intact-said = two-intact;
+      gap-said = flaws .kinds (modulo 5) (torn 2 oldImage (emptyCells 5)) .gapped .0 torn-gap;
+      disorder-said = flaws .kinds (modulo 5) (torn 1 oldImage newImage) .disordered .0 torn-disorder;
+      not-both = flaws .kinds (modulo 5) gapped .apart gapped-is;
+      no-kind = flaws .sound (modulo 5) twoInOrder (λ _. homes) .1 two-kinds;
+      no-kind-in-words = sounds .kinds gateway gateway-proper twoInOrder .1 two-kinds;
+      of-a-kind = λ s. let (_, gapless, _) = sounds .kinds gateway gateway-proper gapped .0 s in gapless gapped-is;
+      met-on-way = decides-on-way;
+      broken-way =
+          flaws .ways 5 (modulo 5) (8 ∷ 0 ∷ 0 ∷ 13 ∷ 0 ∷ []) (λ _. homes) .broken 0 (omega arith) (apart 8 0 tt) .1
+          (4, omega arith, decides-on-way .on-path, omega arith);
+      full-damaged = full-damaged;
+      priced-damaged = priced-damaged;
       listed = ap (λ (i : ℕ). getD (listAfter gateway four sixPlaces) i 0) (sym two-before) ∙ lists .listed list-accepted 3 (apart 13 0 tt);
       behind = lists .behind list-accepted 4 (omega (arith, four-size));
       front = ap (λ (i : ℕ). getD (listFront gateway four sixPlaces) i 0) (sym two-before) ∙ lists .front list-accepted 3 (apart 13 0 tt);

@@ -8,16 +8,19 @@ use native.Mathlib.Nat.{zero-lt-suc, mod-lt}
 use native.Mathlib.Omega.{arith}
 use lib.ListN.{getD}
 use Rattle.ring.specs.Counting.{count}
-use Rattle.ring.specs.Ring.{wrap, dist}
+use Rattle.ring.specs.Ring.{wrap, probe, dist}
 use Rattle.layout.specs.Home.{modulo}
 use Rattle.layout.specs.Layout.{In, into, descending, size, listed}
-use Rattle.layout.specs.Sound.{Holds, all, some, clear, isSound}
+use Rattle.ring.specs.Each.{all, some, first}
+use Rattle.layout.specs.Sound.{Holds}
 use Rattle.layout.proofs.Sets.{held-in, in-holds}
-use Rattle.prices.specs.Contents.{label, content, SoundTable, isSoundTable}
+use Rattle.prices.specs.Contents.{label, content, SoundTable}
 use Rattle.prices.specs.Priced.{labels, lesser, least, Least, SameLeast, PricedSound}
 use Rattle.prices.proofs.Contents.{contents}
 use Rattle.prices.proofs.Labels.{in-labels}
 use Rattle.prices.proofs.Theorem.{theorem as layouts}
+use Rattle.flaws.specs.Flaws.{meetsEmpty, meetsKey}
+use Rattle.flaws.specs.Promise.{Intact, Gapped, Disordered}
 use Rattle.orders.specs.Orders.{lineFault, linesFault}
 use Rattle.words.specs.Promise.{keysBefore}
 use Rattle.rule.specs.declared.Place.{Place}
@@ -32,13 +35,14 @@ use Rattle.phases.proofs.Roomy.{room-by}
 use Rattle.determinism.proofs.Theorem.{one-end}
 use Rattle.state.specs.Model.{gateway}
 use Rattle.state.specs.Open.{openReply}
+use Rattle.state.specs.Refusals.{replyNumber}
 use Rattle.state.specs.declared.Reply.the-variants.{Accepted}
 use Rattle.state.proofs.Model.{gateway-proper}
 use Rattle.protocol.proofs.Soundness.{sounds}
 use Rattle.protocol.specs.Calls.{turnCheck}
 use Rattle.protocol.specs.IsWellFormed.{isWellFormed}
 use Rattle.protocol.specs.WellFormed.{Size}
-use Rattle.tables.specs.Calls.{countNumber, listCall, listAfter, listFront}
+use Rattle.tables.specs.Calls.{countNumber, checkCall, listCall, listAfter, listFront}
 use Rattle.tables.proofs.Theorem.{theorem as tables}
 use Rattle.history.specs.History.{turn, call, run, after}
 use Rattle.history.proofs.Theorem.{keeps-table, one-table, two-turns}
@@ -48,58 +52,59 @@ use Rattle.examples.specs.Orders.{oneLine}
 use Rattle.examples.specs.Lengths.{seven, oneLooks, twoLook, oneItems, onePuts, twoItems, twoPut, onePriceItems, onePrice, twoPriceItems, twoPrices}
 use Rattle.examples.specs.Lengths.{oneInserts, twoInsert, third, OtherLengths}
 use Rattle.examples.specs.Lengths.{emptied, alsoEmptied, holding, alsoHolding, replacing, looking}
+use Rattle.examples.proofs.Sound.{sound-says}
 use Rattle.examples.proofs.Members.{apart, allIn, all-in, leastIn, same-prices, is-least, ownLeast, own-least, same-keys, same-orders}
 
 -- ---- openings
 seven-opens : (openReply gateway 3 1 seven [] ≡ Accepted)
     × (openReply gateway 3 2 seven [] ≡ Accepted)
     × (openReply gateway 1 1 seven (oneLine 7 1 0) ≡ Accepted)
-unfolding lineFault linesFault descending into isSoundTable isSound all some clear dist wrap
+unfolding lineFault linesFault descending into meetsEmpty meetsKey first all some dist probe wrap
 seven-opens = (refl, refl, refl)
 
 three-opens : (openReply gateway 1 1 (emptyCells 3) oneItems ≡ Accepted) × (openReply gateway 1 2 (emptyCells 3) twoItems ≡ Accepted)
-unfolding lineFault linesFault descending into isSoundTable isSound all some clear dist wrap
+unfolding lineFault linesFault descending into meetsEmpty meetsKey first all some dist probe wrap
 three-opens = (refl, refl)
 
 three-open-prices : (openReply gateway 1 1 (emptyCells 3) onePriceItems ≡ Accepted) × (openReply gateway 1 2 (emptyCells 3) twoPriceItems ≡ Accepted)
-unfolding lineFault linesFault descending into isSoundTable isSound all some clear dist wrap
+unfolding lineFault linesFault descending into meetsEmpty meetsKey first all some dist probe wrap
 three-open-prices = (refl, refl)
 
 -- ---- lists of calls are closed, and order the same keys
 looks-closed : (after gateway 3 1 seven [] oneLooks .closed ≡ true) × (after gateway 3 2 seven [] twoLook .closed ≡ true)
-unfolding turnsOf rounds run call isWellFormed isSoundTable isSound all some clear dist wrap rule findStep
+unfolding turnsOf rounds run call isWellFormed meetsEmpty meetsKey first all some dist probe wrap rule findStep
 looks-closed = (refl, refl)
 
 looks-keys : SameOrders 3 label (after gateway 3 1 seven [] oneLooks .ordered) (after gateway 3 2 seven [] twoLook .ordered)
-unfolding allIn listed turnsOf rounds run call isWellFormed isSoundTable isSound all some clear dist wrap rule findStep
+unfolding allIn listed turnsOf rounds run call isWellFormed meetsEmpty meetsKey first all some dist probe wrap rule findStep
 looks-keys = same-keys 3 (apart 3 1 tt) (after gateway 3 1 seven [] oneLooks .ordered) (after gateway 3 2 seven [] twoLook .ordered) tt tt
 
 puts-closed : (after gateway 1 1 (emptyCells 3) oneItems onePuts .closed ≡ true) × (after gateway 1 2 (emptyCells 3) twoItems twoPut .closed ≡ true)
 unfolding turnsOf rounds run call isWellFormed
-    lineFault linesFault descending into isSoundTable isSound all some clear dist wrap rule settled absorbed insertStep
+    lineFault linesFault descending into meetsEmpty meetsKey first all some dist probe wrap rule settled absorbed insertStep
 puts-closed = (refl, refl)
 
 puts-keys : SameOrders 1 label (after gateway 1 1 (emptyCells 3) oneItems onePuts .ordered) (after gateway 1 2 (emptyCells 3) twoItems twoPut .ordered)
 unfolding leastIn listed lesser least turnsOf rounds run call isWellFormed
-    lineFault linesFault descending into isSoundTable isSound all some clear dist wrap rule settled absorbed insertStep
+    lineFault linesFault descending into meetsEmpty meetsKey first all some dist probe wrap rule settled absorbed insertStep
 puts-keys = same-orders 1 (after gateway 1 1 (emptyCells 3) oneItems onePuts .ordered) (after gateway 1 2 (emptyCells 3) twoItems twoPut .ordered) tt tt
 
 prices-closed : (after gateway 1 1 (emptyCells 3) onePriceItems onePrice .closed ≡ true)
     × (after gateway 1 2 (emptyCells 3) twoPriceItems twoPrices .closed ≡ true)
 unfolding turnsOf rounds run call isWellFormed
-    lineFault linesFault descending into isSoundTable isSound all some clear dist wrap rule settled absorbed insertStep
+    lineFault linesFault descending into meetsEmpty meetsKey first all some dist probe wrap rule settled absorbed insertStep
 prices-closed = (refl, refl)
 
 prices-keys : SameOrders 1 label (after gateway 1 1 (emptyCells 3) onePriceItems onePrice .ordered)
     (after gateway 1 2 (emptyCells 3) twoPriceItems twoPrices .ordered)
 unfolding leastIn listed lesser least turnsOf rounds run call isWellFormed
-    lineFault linesFault descending into isSoundTable isSound all some clear dist wrap rule settled absorbed insertStep
+    lineFault linesFault descending into meetsEmpty meetsKey first all some dist probe wrap rule settled absorbed insertStep
 prices-keys =
     same-orders 1 (after gateway 1 1 (emptyCells 3) onePriceItems onePrice .ordered)
     (after gateway 1 2 (emptyCells 3) twoPriceItems twoPrices .ordered) tt tt
 
 none-ordered : after gateway 1 1 seven (oneLine 7 1 0) (turn 0 ∷ line 1 ∷ turn 0 ∷ []) .ordered ≡ []
-unfolding run call isWellFormed lineFault linesFault descending into isSoundTable isSound all some clear dist wrap
+unfolding run call isWellFormed lineFault linesFault descending into meetsEmpty meetsKey first all some dist probe wrap
 none-ordered = refl
 
 -- ---- events
@@ -134,15 +139,15 @@ inserts-roomy =
 
 -- ---- tables
 seven-sound : SoundTable 2 (modulo 2) seven
-unfolding isSoundTable isSound all some clear dist wrap
-seven-sound = contents .test 2 (modulo 2) seven .0 tt
+unfolding meetsEmpty meetsKey first all some dist probe wrap
+seven-sound = sound-says seven .0 tt
 
 seven-priced : PricedSound 2 label (modulo 2) seven
 seven-priced = contents .priced 2 (modulo 2) seven seven-sound
 
 four-empty-sound : PricedSound 4 label (modulo 4) (emptyCells 4)
-unfolding isSoundTable isSound all some clear dist wrap
-four-empty-sound = contents .priced 4 (modulo 4) (emptyCells 4) (contents .test 4 (modulo 4) (emptyCells 4) .0 tt)
+unfolding meetsEmpty meetsKey first all some dist probe wrap
+four-empty-sound = contents .priced 4 (modulo 4) (emptyCells 4) (sound-says (emptyCells 4) .0 tt)
 
 rules : (n : ℕ) → Rules (suc n) label (modulo (suc n))
 rules n = record { blank = refl; inside = λ x. mod-lt x (zero-lt-suc n) }
@@ -158,6 +163,9 @@ seven-own y nz h = let i = held-in 2 seven y refl h in is-least seven y nz i (ow
 seven-keys : (y : ℕ) → label y ≢ 0 → Holds 2 seven y ↔ Least label (content 7 2 ∷ one 7 ∷ []) y
 seven-keys y nz = (λ h. seven-same y nz .0 (seven-own y nz h), λ l. in-holds 2 seven y refl (seven-same y nz .1 l .member))
 
+seven-kinds : Intact seven × (Gapped (modulo 2) seven → ⊥) × (Disordered (modulo 2) seven → ⊥)
+seven-kinds = sounds .kinds gateway gateway-proper seven .0 (sounds .words gateway seven .0 seven-sound)
+
 two-cells : Size gateway 2
 two-cells = (omega arith, omega arith)
 
@@ -171,9 +179,16 @@ none-before = refl
 
 list-accepted : countNumber (listCall gateway seven sixPlaces) ≡ 0
 list-accepted =
-    let (_, (_, (_, none))) = tables gateway gateway-proper seven sixPlaces .list in
+    let (_, (_, (_, (_, (_, none))))) = tables gateway gateway-proper seven sixPlaces .list in
+    let (whole, gapless, ordered) = seven-kinds in
     let l : size (labels label seven) ≤ 6 = omega (arith, seven-size) in
-    none .1 (((tt, two-cells), sounds gateway seven .0 seven-sound), l)
+    none .1 (((((tt, two-cells), whole), gapless), ordered), l)
+
+check-accepted : replyNumber (checkCall gateway seven) ≡ 0
+check-accepted =
+    let (_, (_, (_, (_, none)))) = tables gateway gateway-proper seven [] .check in
+    let (whole, gapless, ordered) = seven-kinds in
+    none .1 ((((tt, two-cells), whole), gapless), ordered)
 
 -- ---- turns: the cell touched is alike
 insert-cell : (c : ℕ) → _≡_ {A = Place} (At 1) (At c) → getD emptied c 0 ≡ getD alsoEmptied c 0
@@ -212,8 +227,8 @@ other-lengths =
           two-turns gateway replacing (third replacing) emptied alsoEmptied 0 2 (insert-pass .0) (insert-pass .1) refl refl refl insert-cell .replies;
       find-turns = two-turns gateway looking (third looking) holding alsoHolding 0 2 (find-pass .0) (find-pass .1) refl refl refl find-cell .replies;
       one-layout = layouts 2 label (modulo 2) (rules 1 .blank) (rules 1 .inside) .unique (content 7 2 ∷ one 7 ∷ []) seven seven-priced seven-keys;
-      passes = lists .check .1 .1 .1 ((tt, two-cells), sounds gateway seven .0 seven-sound);
-      count = lists .count-true (two-cells, sounds gateway seven .0 seven-sound) ∙ seven-size;
+      passes = check-accepted;
+      count = lists .count-true (two-cells, sounds .words gateway seven .0 seven-sound) ∙ seven-size;
       listed = ap (λ (i : ℕ). getD (listAfter gateway seven sixPlaces) i 0) (sym none-before) ∙ lists .listed list-accepted 1 (apart 7 0 tt);
       front = ap (λ (i : ℕ). getD (listFront gateway seven sixPlaces) i 0) (sym none-before) ∙ lists .front list-accepted 1 (apart 7 0 tt);
       kept = keeps-table gateway gateway-proper 1 1 seven (oneLine 7 1 0) (seven-opens .2) .no-orders (turn 0 ∷ line 1 ∷ turn 0 ∷ []) none-ordered;

@@ -14,6 +14,8 @@ use Rattle.examples.specs.Meanings.{Meanings}
 use Rattle.examples.proofs.Lending.{five-good, worker-earliest, blank-behind, blank-later, none-blank}
 use Rattle.examples.proofs.Lending.{four-fills, list-fills, seven-once, four-once, not-mixed, not-listed}
 use Rattle.examples.proofs.Members.{apart, leastIn, allIn, same-orders, same-keys, is-least}
+use Rattle.examples.proofs.Unsound.{disordered-intact, not-full, behind-thirteen, empty-first, not-nearest, in-order}
+use Rattle.examples.proofs.Unsound.{gapped-is, disordered-is, empty-decides, lowest-gap, lowest-disorder}
 
 three : Sold label atPrices 3 7
 three = record { content = content 3 7; member = inr (inr (inr (inr (inl refl)))); is = refl; costs = refl }
@@ -73,4 +75,18 @@ meanings = record {
   of-line = record { line = 1; inside = omega arith; is = refl; costs = refl };
   not-mixed = not-mixed;
   not-listed = not-listed;
+  intact = disordered-intact;
+  not-full = not-full;
+  not-unpriced = λ w. let (_, l, _) = w .cells 1 (omega arith) (apart (content 7 0) 0 tt) in omega (arith, l);
+  not-overpriced = λ w. let (_, _, l) = w .cells 1 (omega arith) (apart (content 7 10000000) 0 tt) in omega (arith, l);
+  not-unlabelled = λ w. let (nz, _, _) = w .cells 1 (omega arith) (apart 7 0 tt) in nz refl;
+  behind-greater = behind-thirteen;
+  empty-first = empty-first;
+  not-nearest = not-nearest;
+  in-order = in-order;
+  gap = gapped-is;
+  disorder = disordered-is;
+  empty-decides = empty-decides;
+  lowest-gap = lowest-gap;
+  lowest-disorder = lowest-disorder;
 }

@@ -10,7 +10,7 @@ use lib.Dec.{T, eqb, eqb→eq, T-not}
 use lib.ListN.{length}
 use Rattle.layout.specs.Layout.{In, listed}
 use Rattle.layout.proofs.Sets.{by-listed}
-use Rattle.layout.proofs.Tests.{and-left, and-right, by-or}
+use Rattle.ring.proofs.Each.{and-left, and-right, by-or}
 use Rattle.prices.specs.Contents.{label}
 use Rattle.prices.specs.Priced.{labels, least, Least, SameLeast}
 use Rattle.prices.proofs.Labels.{in-labels}

@@ -1,11 +1,12 @@
 -- Each example as a test that computes, and the laws that turn a passed test into what the example says.
 use mathlib.Core.Path.{_≡_, refl, sym, ap, ap₂, _∙_, subst}
+use mathlib.Core.Logic.{_≢_}
 use mathlib.Core.Bool.{Bool, true, false, not, cond, _&&_}
 use mathlib.Core.List.{List, [], _∷_, _++_}
 use Prim.Native.Nat.{ℕ, zero, suc, _*_, _≤_, _<_}
 use native.Mathlib.Nat.{zero-add, zero-lt-suc, mod-lt}
 use native.Mathlib.Omega.{arith}
-use borrow.Author.Tests.{le-ltb, lt-leb, ne-eqb}
+use borrow.Author.Tests.{le-ltb, lt-leb, eq-eqb, ne-eqb}
 use lib.Dec.{T, eqb, ltb, eqb→eq, T-not}
 use lib.ListN.{length, getD, take, drop, length-replicate}
 use Rattle.ring.proofs.Split.{by-eq}
@@ -14,10 +15,12 @@ use Rattle.layout.specs.Home.{modulo}
 use Rattle.layout.specs.Layout.{descending, size, placeAll, layout}
 use Rattle.layout.specs.Sound.{Sound}
 use Rattle.layout.proofs.Theorem.{theorem as layouts}
-use Rattle.layout.proofs.Tests.{and-left, and-right}
-use Rattle.prices.specs.Contents.{label, cellOk, SoundTable, isSoundTable}
+use Rattle.ring.proofs.Each.{and-left, and-right}
+use Rattle.prices.specs.Contents.{label, cellOk, SoundTable}
 use Rattle.prices.specs.Priced.{labels, pricedLayout}
-use Rattle.prices.proofs.Contents.{contents}
+use Rattle.flaws.specs.Flaws.{isIntact, meetsEmpty, meetsKey}
+use Rattle.flaws.specs.Promise.{Intact, Gapped, Disordered, Flaws}
+use Rattle.flaws.proofs.Theorem.{theorem as flaws}
 use Rattle.orders.specs.Orders.{linesFault}
 use Rattle.orders.specs.declared.Order.{Order}
 use Rattle.words.specs.Words.{occupied, entriesOf, filled, group, wordOf, countOf}
@@ -31,10 +34,10 @@ use Rattle.rule.specs.declared.Answer.the-variants as answer
 use Rattle.rule.specs.Schedules.{sameTable, closesRight}
 use Rattle.rule.proofs.Schedules.{same-table, closes}
 use Rattle.state.specs.Model.{gateway, sizeOk}
-use Rattle.state.specs.Open.{crowded, openReply, openCall}
+use Rattle.state.specs.Open.{soundBars, crowded, opened, openReply, openCall}
 use Rattle.state.specs.Refusals.{replyNumber, if, firstOf}
 use Rattle.state.specs.declared.Phase.{Phase}
-use Rattle.state.specs.declared.Refusal.the-variants.{Size, ShortList}
+use Rattle.state.specs.declared.Refusal.the-variants.{Size, Unsound, ShortList, Gap, Disorder}
 use Rattle.state.specs.declared.Reply.{Reply}
 use Rattle.state.specs.declared.Reply.the-variants.{Accepted, Refused}
 use Rattle.protocol.specs.Calls.{turnNumber, orderCall, turnCall, turnTable}
@@ -50,12 +53,18 @@ use Rattle.tables.specs.declared.Counted.the-variants as counted
 use Rattle.history.specs.History.{after}
 use Rattle.history.specs.History as history
 use Rattle.numbered.specs.Lists.{answersOf}
-use Rattle.examples.specs.Forms.{Example, laid, unsound, word, counting, listing, opening, ordering, empties, calling, tracing, refusing, bound, closing}
-use Rattle.examples.specs.Forms.{Told, emptyCells, alone, callsOf, answersTold, Spoilt, Unspoilt, Says, AllSay}
+use Rattle.examples.specs.Forms.{Example, laid, unsound, word, counting, listing, opening, ordering, empties, marked, calling}
+use Rattle.examples.specs.Forms.{tracing, refusing, bound, closing}
+use Rattle.examples.specs.Forms.{Told, emptyCells, handedBack, alone, callsOf, answersTold, Spoilt, Unspoilt, Says, AllSay}
+use Rattle.examples.proofs.Sound.{isSound, sound-says}
 
 is-true : (b : Bool) → T b → b ≡ true
 is-true true p = refl
 is-true false p = absurd p
+
+is-false : (b : Bool) → (b ≡ true → ⊥) → b ≡ false
+is-false true not-true = absurd (not-true refl)
+is-false false not-true = refl
 
 unfoldable pub sameBit : Bool → Bool → Bool
 sameBit true b = b
@@ -201,9 +210,31 @@ blank-table n some =
       cells = λ j _. subst (λ (c : ℕ). T (cellOk c)) (sym (blank-cell n j)) tt;
     }
 
-blank-sound : (n : ℕ) → 0 < n → isSoundTable (length (emptyCells n)) (modulo (length (emptyCells n))) (emptyCells n) ≡ true
-blank-sound n some =
-    rw (blank-length n) (is-true (isSoundTable n (modulo n) (emptyCells n)) (contents .test n (modulo n) (emptyCells n) .1 (blank-table n some)))
+-- of none of the three kinds of unsound
+module _ (n : ℕ) where
+  abbrev cells : List ℕ
+  cells = emptyCells (suc n)
+
+  abbrev homes : ℕ → ℕ
+  homes = modulo (length cells)
+
+  abbrev kinds : Flaws homes cells
+  kinds = flaws .kinds homes cells
+
+  blank-kinds : Intact cells × (Gapped homes cells → ⊥) × (Disordered homes cells → ⊥)
+  blank-kinds =
+      let inside : (x : ℕ) → homes x < length cells = λ x. mod-lt x (zero-lt-suc (length (emptyCells n))) in
+      let sound = blank-table (suc n) (zero-lt-suc n) in
+      flaws .sound homes cells (λ _. inside) .0 (subst (λ (k : ℕ). SoundTable k (modulo k) cells) (sym (blank-length (suc n))) sound)
+
+  blank-intact : isIntact cells ≡ true
+  blank-intact = kinds .intact .1 (blank-kinds .0)
+
+  blank-gapless : meetsEmpty homes cells ≡ false
+  blank-gapless = is-false (meetsEmpty homes cells) (λ e. blank-kinds .1 (kinds .gapped .0 e))
+
+  blank-ordered : meetsKey homes cells ≡ false
+  blank-ordered = is-false (meetsKey homes cells) (λ e. blank-kinds .2 (kinds .disordered .0 e))
 
 -- no labels
 blank-count : (n : ℕ) → occupied (emptyCells n) ≡ 0
@@ -216,7 +247,7 @@ sized n = cond (not (sizeOk gateway n)) (Refused Size) Accepted
 
 blank-check : (n : ℕ) → checkCall gateway (emptyCells n) ≡ sized n
 blank-check zero = refl
-blank-check (suc n) = rw (blank-sound (suc n) (zero-lt-suc n), blank-length n)
+blank-check (suc n) = rw (blank-intact n, blank-gapless n, blank-ordered n, blank-length n)
 
 -- without orders there is room
 blank-size : (n : ℕ) → size (labels label (emptyCells n) ++ []) ≡ 0
@@ -229,13 +260,13 @@ blank-room n = lt-leb (length (emptyCells (suc n))) (size (labels label (emptyCe
 
 blank-opens : (n m : ℕ) → (1 ≤ m) × (m ≤ 16) → openReply gateway 1 m (emptyCells (suc n)) [] ≡ sized (suc n)
 unfolding linesFault
-blank-opens n m crew = rw (blank-sound (suc n) (zero-lt-suc n), within-says 1 16 m .1 crew, blank-room n, blank-length n)
+blank-opens n m crew = rw (blank-intact n, blank-gapless n, blank-ordered n, within-says 1 16 m .1 crew, blank-room n, blank-length n)
 
 blank-open : (n k m : ℕ) → (1 ≤ k) × (k ≤ 3) → (1 ≤ m) × (m ≤ 16) → openReply gateway k m (emptyCells n) [] ≡ sized n
 blank-open zero k m kind crew = refl
 blank-open (suc n) k m kind crew = by-eq k 1
     (λ e. rw e (blank-opens n m crew))
-    (λ ne. rw (ne-eqb k 1 ne, blank-sound (suc n) (zero-lt-suc n), within-says 1 16 m .1 crew, within-says 1 3 k .1 kind, blank-length n))
+    (λ ne. rw (ne-eqb k 1 ne, blank-intact n, blank-gapless n, blank-ordered n, within-says 1 16 m .1 crew, within-says 1 3 k .1 kind, blank-length n))
 
 no-value : (r : Reply) → countValue (countedBy 0 r) ≡ 0
 no-value Accepted = refl
@@ -249,7 +280,7 @@ blank-lists zero out = refl
 blank-lists (suc n) out =
     let none : countOf (emptyCells (suc n)) ≡ 0 = count-occupied (emptyCells (suc n)) ∙ blank-count (suc n) in
     let l : countOf (emptyCells (suc n)) ≤ length out = omega arith in
-    rw (blank-sound (suc n) (zero-lt-suc n), le-ltb (length out) (countOf (emptyCells (suc n))) l, blank-length n)
+    rw (blank-intact n, blank-gapless n, blank-ordered n, le-ltb (length out) (countOf (emptyCells (suc n))) l, blank-length n)
 
 no-keys : (n : ℕ) → entriesOf (emptyCells n) ≡ []
 no-keys zero = refl
@@ -266,6 +297,53 @@ either (counted.Refused r) x y e = refl
 count-number : (c : ℕ) (r : Reply) → countNumber (countedBy c r) ≡ replyNumber r
 count-number c Accepted = refl
 count-number c (Refused r) = refl
+
+-- ---- unsound tables
+-- the table's 4, 17 and 18, and the same before any further refusals
+abbrev unsoundBy : List ℕ → Reply
+unsoundBy t = firstOf (soundBars gateway t)
+
+abbrev ofThree : (whole gap disorder : Bool) → Reply → Reply
+ofThree w g d further = cond (not w) (Refused Unsound) (cond g (Refused Gap) (cond d (Refused Disorder) further))
+
+before-further : (w g d : Bool) (further : Reply) → replyNumber (ofThree w g d Accepted) ≢ 0 → ofThree w g d further ≡ ofThree w g d Accepted
+before-further false g d further ne = refl
+before-further true true d further ne = refl
+before-further true false true further ne = refl
+before-further true false false further ne = absurd (ne refl)
+
+-- a refusal gives no count, keeps a list and hands back a shut record
+refused-value : (c : ℕ) (r : Reply) → replyNumber r ≢ 0 → countValue (countedBy c r) ≡ 0
+refused-value c Accepted ne = absurd (ne refl)
+refused-value c (Refused e) ne = refl
+
+refused-list : (c : ℕ) (r : Reply) (x y : List ℕ) → replyNumber r ≢ 0 → ifCounted (countedBy c r) x y ≡ y
+refused-list c Accepted x y ne = absurd (ne refl)
+refused-list c (Refused e) x y ne = refl
+
+refused-phase : (k m : ℕ) (t : List ℕ) (r : Reply) → replyNumber r ≢ 0 → opened gateway k m t r .phase ≡ handedBack
+refused-phase k m t Accepted ne = absurd (ne refl)
+refused-phase k m t (Refused e) ne = refl
+
+opened-reply : (k m : ℕ) (t : List ℕ) (r : Reply) → opened gateway k m t r .reply ≡ r
+opened-reply k m t Accepted = refl
+opened-reply k m t (Refused e) = refl
+
+-- a table of a length within the limits, refused
+module _ (t : List ℕ) (cells : sizeOk gateway (length t) ≡ true) (bad : replyNumber (unsoundBy t) ≢ 0) where
+  further-bars : (further : Reply) → ofThree (isIntact t) (meetsEmpty (modulo (length t)) t) (meetsKey (modulo (length t)) t) further ≡ unsoundBy t
+  further-bars further = before-further (isIntact t) (meetsEmpty (modulo (length t)) t) (meetsKey (modulo (length t)) t) further bad
+
+  marked-check : checkCall gateway t ≡ unsoundBy t
+  marked-check = rw cells
+
+  marked-list : (out : List ℕ) → firstOf (listBars gateway t out) ≡ unsoundBy t
+  marked-list out = rw cells (further-bars _)
+
+  marked-open : (k m : ℕ) (os : List Order) → (1 ≤ k) × (k ≤ 3) → (1 ≤ m) × (m ≤ 16) → length os ≤ 65536 → openReply gateway k m t os ≡ unsoundBy t
+  marked-open k m os kind crew few = by-eq k 1
+      (λ e. rw (e, cells, within-says 1 16 m .1 crew, le-ltb 65536 (length os) few) (further-bars _))
+      (λ ne. rw (ne-eqb k 1 ne, cells, within-says 1 16 m .1 crew, within-says 1 3 k .1 kind))
 
 -- ---- spoilt or not
 unspoilt : (p : Phase) → T (isWellFormed gateway p) → Unspoilt p
@@ -289,7 +367,7 @@ spoilt p h os i w v t =
 -- ---- the test
 unfoldable pub passes : Example → Bool
 passes (laid n es t) = sameTable (pricedLayout n label (modulo n) es) t
-passes (unsound t) = not (isSoundTable (length t) (modulo (length t)) t)
+passes (unsound t) = not (isSound t)
 passes (word t g w place) = eqb (wordOf (group t g)) w && eqb (occupied (take (64 * g) t)) place
 passes (counting t r c) = let a = counts t [] (occupied t) in sameTable (replyNumber (checkCall gateway t) ∷ countNumber a ∷ countValue a ∷ []) (r ∷ r ∷ c ∷ [])
 passes (listing t out r c u front) =
@@ -299,6 +377,7 @@ passes (listing t out r c u front) =
 passes (opening M k m t os r p) = let o = openCall M k m t os in eqb (replyNumber (o .reply)) r && samePhase (o .phase) p
 passes (ordering p os i w v r q) = let o = orderCall gateway p os i w v in eqb (replyNumber (o .reply)) r && samePhase (o .phase) q
 passes (empties n r) = eqb (replyNumber (sized n)) r
+passes (marked t r) = sizeOk gateway (length t) && (not (eqb r 0) && eqb (replyNumber (unsoundBy t)) r)
 passes (calling k m t os cs i u) =
     let s = after gateway k m t os (callsOf cs) in
     sameTable (replyNumber (openReply gateway k m t os) ∷ answersOf gateway os (callsOf cs) (history.opening gateway k m t os)) (0 ∷ answersTold cs)
@@ -364,6 +443,34 @@ blank-says n r p =
       ),
     )
 
+marked-says : (t : List ℕ) (r : ℕ) → T (passes (marked t r)) → Says (marked t r)
+unfolding passes
+marked-says t r p =
+    let one = sizeOk gateway (length t) in
+    let two = not (eqb r 0) in
+    let three = eqb (replyNumber (unsoundBy t)) r in
+    let cells : one ≡ true = is-true one (and-left one (two && three) p) in
+    let q = and-right one (two && three) p in
+    let is : replyNumber (unsoundBy t) ≡ r = eqb→eq (replyNumber (unsoundBy t)) r (and-right two three q) in
+    let bad : replyNumber (unsoundBy t) ≢ 0 = λ z. T-not (eqb r 0) (and-left two three q) (subst T (sym (eq-eqb r 0 (sym is ∙ z))) tt) in
+    let check : checkCall gateway t ≡ unsoundBy t = marked-check t cells bad in (
+      λ k m os kind crew few.
+          let opens : openReply gateway k m t os ≡ unsoundBy t = marked-open t cells bad k m os kind crew few in (
+            ap replyNumber (opened-reply k m t (openReply gateway k m t os) ∙ opens) ∙ is,
+            refused-phase k m t (openReply gateway k m t os) (λ z. bad (ap replyNumber (sym opens) ∙ z)),
+          ),
+      ap replyNumber check ∙ is,
+      count-number (countOf t) (checkCall gateway t) ∙ ap replyNumber check ∙ is,
+      refused-value (countOf t) (checkCall gateway t) (λ z. bad (ap replyNumber (sym check) ∙ z)),
+      λ out.
+          let lists : firstOf (listBars gateway t out) ≡ unsoundBy t = marked-list t cells bad out in
+          let ne : replyNumber (firstOf (listBars gateway t out)) ≢ 0 = λ z. bad (ap replyNumber (sym lists) ∙ z) in (
+            count-number (countOf t) (firstOf (listBars gateway t out)) ∙ ap replyNumber lists ∙ is,
+            refused-list (countOf t) (firstOf (listBars gateway t out)) (filled t out) out ne,
+            refused-list (countOf t) (firstOf (listBars gateway t out)) (entriesOf t) [] ne,
+          ),
+    )
+
 -- a call's number and phase state
 replied-says : (a r : ℕ) (p q : Phase) → T (eqb a r && samePhase p q) → (a ≡ r) × (p ≡ q)
 replied-says a r p q h = (eqb→eq a r (and-left (eqb a r) (samePhase p q) h), same-phase p q (and-right (eqb a r) (samePhase p q) h))
@@ -407,7 +514,7 @@ refusing-says p t w r h =
 passes-says : (e : Example) → T (passes e) → Says e
 unfolding passes
 passes-says (laid n es t) p = same-table (pricedLayout n label (modulo n) es) t p
-passes-says (unsound t) p = λ s. T-not (isSoundTable (length t) (modulo (length t)) t) p (contents .test (length t) (modulo (length t)) t .1 s)
+passes-says (unsound t) p = λ s. T-not (isSound t) p (sound-says t .1 s)
 passes-says (word t g w place) p =
     let one = eqb (wordOf (group t g)) w in
     let two = eqb (occupied (take (64 * g) t)) place in
@@ -417,6 +524,7 @@ passes-says (listing t out r c u front) p = listing-says t out r c u front p
 passes-says (opening M k m t os r p) h = let o = openCall M k m t os in replied-says (replyNumber (o .reply)) r (o .phase) p h
 passes-says (ordering p os i w v r q) h = let o = orderCall gateway p os i w v in replied-says (replyNumber (o .reply)) r (o .phase) q h
 passes-says (empties n r) p = blank-says n r p
+passes-says (marked t r) p = marked-says t r p
 passes-says (calling k m t os cs i u) p = calling-says k m t os cs i u p
 passes-says (tracing k t a r b u) p = tracing-says k t a r b u p
 passes-says (refusing p t w r) h = refusing-says p t w r h

@@ -7,15 +7,17 @@ use Prim.Native.Nat.{ℕ, zero, suc, _≤_, _<_}
 use native.Mathlib.Omega.{arith}
 use lib.ListN.{length, getD, replicate, length-replicate}
 use borrow.Author.Tests.{eqb-true, ne-eqb, leb-true}
-use Rattle.ring.specs.Ring.{wrap, dist}
+use Rattle.ring.specs.Ring.{wrap, probe, dist}
 use Rattle.ring.proofs.Split.{by-eq}
 use Rattle.layout.specs.Home.{modulo}
 use Rattle.layout.specs.Layout.{In, into, descending, size}
-use Rattle.layout.specs.Sound.{all, some, clear, isSound}
+use Rattle.ring.specs.Each.{all, some, first}
 use Rattle.layout.proofs.Sets.{in-append, subset-size}
-use Rattle.prices.specs.Contents.{label, content, isSoundTable}
+use Rattle.prices.specs.Contents.{label, content}
 use Rattle.prices.specs.Priced.{labels}
-use Rattle.prices.proofs.Contents.{contents}
+use Rattle.flaws.specs.Flaws.{meetsEmpty, meetsKey}
+use Rattle.flaws.specs.Promise.{Gapped}
+use Rattle.flaws.proofs.Theorem.{theorem as flaws}
 use Rattle.orders.specs.Orders.{orderWith, orderKeys, lineFault, linesFault}
 use Rattle.orders.specs.declared.Order.{Order}
 use Rattle.activities.specs.declared.Activity.the-variants.{Reading, Replacing, WalkingBack}
@@ -25,6 +27,7 @@ use Rattle.rule.specs.Schedules.{one, ones}
 use Rattle.state.specs.Model.{gateway}
 use Rattle.state.specs.Open.{openCall}
 use Rattle.state.specs.Refusals.{replyNumber}
+use Rattle.state.proofs.Model.{gateway-proper}
 use Rattle.protocol.specs.Bars.{doing}
 use Rattle.protocol.specs.Calls.{turnNumber, withWorker, closeCall, orderCall, turnCall, turnTable}
 use Rattle.protocol.specs.Cases.{Decides}
@@ -43,19 +46,22 @@ use Rattle.protocol.proofs.Theorem.{well-formed, opens, orders, turns, closes}
 use Rattle.examples.specs.Forms.{emptyCells, worker}
 use Rattle.examples.specs.Examples.{four, atPrices, sheetItems}
 use Rattle.examples.specs.Orders.{oneLine, wrongLines}
+use Rattle.examples.specs.Repairs.{gapped, disordered}
 use Rattle.examples.specs.Corollaries.{fewWorkers, manyWorkers, altered, overwritten, overpriced, justOpened, firstLine, workerBeforeBlank}
 use Rattle.examples.specs.Corollaries.{puttingIn, repricing, meeting, emptying, lookingUp}
-use Rattle.examples.specs.Corollaries.{madeOnOthers, CallCorollaries}
+use Rattle.examples.specs.Corollaries.{repriceItems, madeOnOthers, CallCorollaries}
+use Rattle.examples.proofs.Sound.{sound-says}
 use Rattle.examples.proofs.Lending.{worker-earliest, four-fills, seven-once}
 use Rattle.examples.proofs.Members.{apart}
+use Rattle.examples.proofs.Unsound.{disordered-intact, gapped-intact, gapped-is, disordered-is}
 
 -- ---- openings
 opened-number : replyNumber (openCall gateway 1 2 (emptyCells 5) sheetItems .reply) ≡ 0
-unfolding lineFault linesFault descending into isSoundTable isSound all some clear dist wrap
+unfolding lineFault linesFault descending into meetsEmpty meetsKey first all some dist probe wrap
 opened-number = refl
 
 not-opened : replyNumber (openCall gateway 4 1 four wrongLines .reply) ≢ 0
-unfolding isSoundTable isSound all some clear dist wrap
+unfolding meetsEmpty meetsKey first all some dist probe wrap
 not-opened z = omega arith
 
 rests : Resting gateway 1 5 2 false justOpened
@@ -77,28 +83,39 @@ module _ (m : ℕ) (t : List ℕ) (os : List Order) (cells : Size gateway (lengt
     (sound : Soundness gateway t) (good : linesFault m os ≡ 0) where
   fits : (Fills t os → ⊥) → replyNumber (openCall gateway 1 m t os .reply) ≡ 0
   fits fewer =
-      let (_, (_, (_, (_, (_, (_, (_, (_, (_, none))))))))) = opens gateway 1 m t os .inserts refl in
+      let (_, (_, (_, (_, (_, (_, (_, (_, (_, (_, (_, none))))))))))) = opens gateway 1 m t os .inserts refl in
+      let (whole, gapless, ordered) = sounds .kinds gateway gateway-proper t .0 sound in
       let a = not-blank m os 0 good (λ z. omega arith) in
       let b = not-priceless m os 0 good (λ z. omega arith) in
       let c = not-workless m os 0 good (λ z. omega arith) in
-      none .1 (((((((((tt, cells), crew), (omega arith, omega arith)), few), sound), a), b), c), fewer)
+      none .1 (((((((((((tt, cells), crew), (omega arith, omega arith)), few), whole), gapless), ordered), a), b), c), fewer)
 
   overflows : Fills t os → replyNumber (openCall gateway 1 m t os .reply) ≡ 9
   overflows fills =
-      let (_, (_, (_, (_, (_, (_, (_, (_, (nine, _))))))))) = opens gateway 1 m t os .inserts refl in
+      let (_, (_, (_, (_, (_, (_, (_, (_, (_, (_, (nine, _))))))))))) = opens gateway 1 m t os .inserts refl in
+      let (whole, gapless, ordered) = sounds .kinds gateway gateway-proper t .0 sound in
       let a = not-blank m os 0 good (λ z. omega arith) in
       let b = not-priceless m os 0 good (λ z. omega arith) in
       let c = not-workless m os 0 good (λ z. omega arith) in
-      nine .1 (((((((((tt, cells), crew), (omega arith, omega arith)), few), sound), a), b), c), fills)
+      nine .1 (((((((((((tt, cells), crew), (omega arith, omega arith)), few), whole), gapless), ordered), a), b), c), fills)
+
+five-cells : Size gateway 5
+five-cells = (omega arith, omega arith)
+
+two-workers : Crew gateway 2
+two-workers = (omega arith, omega arith)
+
+not-gapped : Gapped (modulo 5) disordered → ⊥
+not-gapped g = flaws .kinds (modulo 5) disordered .apart g disordered-is
 
 -- 2 cells with {7}, and five empty cells
 seven-sound : Soundness gateway (ones (0 ∷ 7 ∷ []))
-unfolding isSoundTable isSound all some clear dist wrap
-seven-sound = sounds gateway (ones (0 ∷ 7 ∷ [])) .0 (contents .test 2 (modulo 2) (ones (0 ∷ 7 ∷ [])) .0 tt)
+unfolding meetsEmpty meetsKey first all some dist probe wrap
+seven-sound = sounds .words gateway (ones (0 ∷ 7 ∷ [])) .0 (sound-says (ones (0 ∷ 7 ∷ [])) .0 tt)
 
 five-sound : Soundness gateway (emptyCells 5)
-unfolding isSoundTable isSound all some clear dist wrap
-five-sound = sounds gateway (emptyCells 5) .0 (contents .test 5 (modulo 5) (emptyCells 5) .0 tt)
+unfolding meetsEmpty meetsKey first all some dist probe wrap
+five-sound = sounds .words gateway (emptyCells 5) .0 (sound-says (emptyCells 5) .0 tt)
 
 good-line : (l : ℕ) → l ≢ 0 → linesFault 1 (oneLine l 1 0) ≡ 0
 unfolding lineFault linesFault
@@ -122,11 +139,31 @@ worker-lacks = refl
 worker-decides : replyNumber (openCall gateway 1 2 (emptyCells 5) workerBeforeBlank .reply) ≡ 6
 worker-decides =
     let os = workerBeforeBlank in
-    let (_, (_, (_, (_, (_, (_, (_, (six, _)))))))) = opens gateway 1 2 (emptyCells 5) os .inserts refl in
+    let (_, (_, (_, (_, (_, (_, (_, (_, (_, (six, _)))))))))) = opens gateway 1 2 (emptyCells 5) os .inserts refl in
+    let (whole, gapless, ordered) = sounds .kinds gateway gateway-proper (emptyCells 5) .0 five-sound in
     let a = not-blank 2 os 6 worker-lacks (λ z. omega arith) in
     let b = not-priceless 2 os 6 worker-lacks (λ z. omega arith) in
-    six .1
-    ((((((((tt, (omega arith, omega arith)), (omega arith, omega arith)), (omega arith, omega arith)), omega arith), five-sound), a), b), worker-earliest)
+    six .1 ((((((((((tt, five-cells), two-workers), (omega arith, omega arith)), omega arith), whole), gapless), ordered), a), b), worker-earliest)
+
+-- ---- tables that are not sound
+gap-opens : replyNumber (openCall gateway 1 2 gapped wrongLines .reply) ≡ 17
+gap-opens =
+    let (_, (_, (_, (_, (_, (seventeen, _)))))) = opens gateway 1 2 gapped wrongLines .inserts refl in
+    seventeen .1 ((((((tt, five-cells), two-workers), (omega arith, omega arith)), omega arith), gapped-intact), gapped-is)
+
+disorder-opens : replyNumber (openCall gateway 1 2 disordered wrongLines .reply) ≡ 18
+disorder-opens =
+    let (_, (_, (_, (_, (_, (_, (eighteen, _))))))) = opens gateway 1 2 disordered wrongLines .inserts refl in
+    eighteen .1 (((((((tt, five-cells), two-workers), (omega arith, omega arith)), omega arith), disordered-intact), not-gapped), disordered-is)
+
+disorder-looks : replyNumber (openCall gateway 3 2 disordered wrongLines .reply) ≡ 18
+disorder-looks =
+    let (_, (_, (_, (_, (_, (eighteen, _)))))) = opens gateway 3 2 disordered wrongLines .others (λ z. apart 3 1 tt z) in
+    eighteen .1 ((((((tt, five-cells), two-workers), (omega arith, omega arith)), disordered-intact), not-gapped), disordered-is)
+
+prices-open : replyNumber (openCall gateway 1 2 atPrices repriceItems .reply) ≡ 0
+unfolding lineFault linesFault descending into meetsEmpty meetsKey first all some dist probe wrap
+prices-open = refl
 
 -- many lines, all alike
 all-good : (n : ℕ) → linesFault 2 (replicate n (orderWith 3 1 0)) ≡ 0
@@ -165,7 +202,7 @@ too-many n l o =
 -- ---- orders and closes
 -- of label 3 at price 7 to worker 0, by an altered list
 order-number : replyNumber (firstLine (oneLine 3 7 0) .reply) ≡ 0
-unfolding isWellFormed lineFault linesFault descending into isSoundTable isSound all some clear dist wrap
+unfolding isWellFormed lineFault linesFault descending into meetsEmpty meetsKey first all some dist probe wrap
 order-number = refl
 
 started : Starts gateway justOpened 0 3 7 (firstLine (oneLine 3 7 0) .phase)
@@ -222,7 +259,7 @@ unread =
     none .1 (((((tt, few-formed), refl), omega arith), refl), apart 9 0 tt)
 
 close-number : replyNumber (closeCall gateway justOpened .reply) ≡ 0
-unfolding isWellFormed lineFault linesFault descending into isSoundTable isSound all some clear dist wrap
+unfolding isWellFormed lineFault linesFault descending into meetsEmpty meetsKey first all some dist probe wrap
 close-number = refl
 
 -- turns
@@ -294,6 +331,11 @@ call-corollaries =
       opened-idle = rests .rest 1;
       refused-shut = refused .refused not-opened .shut;
       refused-cells = refused .refused not-opened .cells;
+      opened-sound = opens gateway 1 2 atPrices repriceItems .sound gateway-proper prices-open;
+      not-unsound = opens gateway 1 2 (emptyCells 5) workerBeforeBlank .never-unsound gateway-proper five-sound;
+      gap-refused = gap-opens;
+      disorder-refused = disorder-opens;
+      looks-refused = disorder-looks;
       room = seven-fits;
       full = four-overflows;
       earliest = worker-decides;

@@ -3,10 +3,10 @@ use mathlib.Core.List.{List, [], _∷_, _++_, map}
 use lib.Dec.{T}
 use Rattle.ring.specs.Counting.{count}
 use Rattle.ring.specs.Ring.{wrap, probe, dist, prev}
-use Rattle.layout.specs.Layout.{into, descending, listed, firstEmpty, place, placeAll, layout}
-use Rattle.layout.specs.Sound.{all, some, clear, isSound}
-use Rattle.prices.specs.Contents.{isSoundTable}
+use Rattle.layout.specs.Layout.{into, descending, listed, place, placeAll, layout}
+use Rattle.ring.specs.Each.{all, some, first}
 use Rattle.prices.specs.Priced.{lesser, least, withoutLabels}
+use Rattle.flaws.specs.Flaws.{meetsEmpty, meetsKey}
 use Rattle.orders.specs.Orders.{lineFault, linesFault, ordersOf}
 use Rattle.rule.specs.Rule.{settled, absorbed, insertStep, findStep, fits, narrow, deleteStep, rule}
 use Rattle.rule.specs.Schedules.{Schedule, sameTable, schedules, AllClose}
@@ -19,22 +19,23 @@ use Rattle.examples.specs.Traces.{idleTurns, insertTurns, findTurns, del
 use Rattle.examples.specs.Bounds.{numberBounds, crewBounds, kindBounds, cellBounds, keyBounds, priceBounds, bounds}
 use Rattle.examples.specs.Limits.{lengths, openings, refusedTurns, listings, limits}
 use Rattle.examples.specs.Orders.{openingSequence, lineFaults, fillings, lineOrders, alteredLists, handedOrders, orders}
+use Rattle.examples.specs.Repairs.{papers, tears, overwritten, wrongCells, lowestCells, firstMet, wraps, wider, places, repairs}
 use Rattle.examples.specs.Examples.{tables, ons, phases, prices, ExamplesPromise}
 use Rattle.examples.proofs.Passing.{sameBit, codeOf, sameWorkers, samePhase, answerCode, answers, passes, allPass, all-say}
 
 computed : T (allPass tables)
-unfolding allPass passes tables sameTable layout placeAll place firstEmpty descending into withoutLabels listed lesser least
-    isSoundTable isSound all some clear dist probe wrap
+unfolding allPass passes tables sameTable layout placeAll place descending into withoutLabels listed lesser least
+    meetsEmpty meetsKey first all some dist probe wrap
 computed = tt
 
 phases-computed : T (allPass phases)
 unfolding allPass passes phases ons sameTable answerOf answersOf run call lineFault linesFault descending into
-    isWellFormed isSoundTable isSound all some clear dist wrap prev rule settled absorbed insertStep findStep deleteStep fits narrow
+    isWellFormed meetsEmpty meetsKey first all some dist probe wrap prev rule settled absorbed insertStep findStep deleteStep fits narrow
 phases-computed = tt
 
 prices-computed : T (allPass prices)
 unfolding allPass passes prices ons sameTable answerOf answersOf run call lineFault linesFault descending into
-    isWellFormed isSoundTable isSound all some clear dist wrap prev rule settled absorbed insertStep findStep deleteStep fits narrow
+    isWellFormed meetsEmpty meetsKey first all some dist probe wrap prev rule settled absorbed insertStep findStep deleteStep fits narrow
 prices-computed = tt
 
 traces-computed : T (allPass traces)
@@ -48,13 +49,18 @@ bounds-computed = tt
 
 limits-computed : T (allPass limits)
 unfolding allPass passes lengths openings refusedTurns listings sameTable sameBit codeOf sameWorkers samePhase
-    isWellFormed isSoundTable isSound all some clear dist wrap count linesFault descending into
+    isWellFormed meetsEmpty meetsKey first all some dist probe wrap count linesFault descending into
 limits-computed = tt
 
 orders-computed : T (allPass orders)
 unfolding allPass passes openingSequence lineFaults fillings lineOrders alteredLists handedOrders sameTable sameBit codeOf sameWorkers samePhase
-    lineFault linesFault ordersOf descending into isWellFormed isSoundTable isSound all some clear dist wrap
+    lineFault linesFault ordersOf descending into isWellFormed meetsEmpty meetsKey first all some dist probe wrap
 orders-computed = tt
+
+repairs-computed : T (allPass repairs)
+unfolding allPass passes papers tears overwritten wrongCells lowestCells firstMet wraps wider places sameTable sameBit codeOf sameWorkers samePhase
+    meetsEmpty meetsKey first all some dist probe wrap lineFault linesFault
+repairs-computed = tt
 
 -- ---- with the schedules
 both : (es es′ : List Example) → AllSay es → AllSay es′ → AllSay (es ++ es′)
@@ -76,5 +82,10 @@ theorem =
     let six : AllSay (tables ++ phases ++ prices ++ traces ++ bounds ++ limits) =
     both (tables ++ phases ++ prices ++ traces ++ bounds) limits five (all-say limits limits-computed)
     in
-    both (tables ++ phases ++ prices ++ traces ++ bounds ++ limits ++ orders) (map closing schedules)
-    (both (tables ++ phases ++ prices ++ traces ++ bounds ++ limits) orders six (all-say orders orders-computed)) (all-closing schedules all-close)
+    let seven : AllSay (tables ++ phases ++ prices ++ traces ++ bounds ++ limits ++ orders) =
+    both (tables ++ phases ++ prices ++ traces ++ bounds ++ limits) orders six (all-say orders orders-computed)
+    in
+    let eight : AllSay (tables ++ phases ++ prices ++ traces ++ bounds ++ limits ++ orders ++ repairs) =
+    both (tables ++ phases ++ prices ++ traces ++ bounds ++ limits ++ orders) repairs seven (all-say repairs repairs-computed)
+    in
+    both (tables ++ phases ++ prices ++ traces ++ bounds ++ limits ++ orders ++ repairs) (map closing schedules) eight (all-closing schedules all-close)

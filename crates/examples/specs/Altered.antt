@@ -2,7 +2,6 @@
 use mathlib.Core.Path.{_≡_}
 use mathlib.Core.Logic.{_⊎_}
 use mathlib.Core.List.{List, [], _∷_, map}
-use Prim.Native.Nat.{ℕ}
 use Rattle.layout.specs.Home.{modulo}
 use Rattle.layout.specs.Layout.{In}
 use Rattle.layout.specs.Sound.{Ordered}

@@ -13,6 +13,8 @@ use Rattle.layout.specs.Layout.{In}
 use Rattle.layout.specs.Sound.{Ordered}
 use Rattle.prices.specs.Contents.{label, price, content, cellOk, SoundTable}
 use Rattle.prices.specs.Priced.{labels, Least, pricedLayout, withoutLabels}
+use Rattle.flaws.specs.Flaws.{isIntact, meetsEmpty, meetsKey}
+use Rattle.flaws.specs.Promise.{Intact, Damaged, Breaks, Gapped, Disordered, FirstOnPath}
 use Rattle.orders.specs.Orders.{orderWith, blank}
 use Rattle.orders.specs.declared.Order.{Order}
 use Rattle.words.specs.Words.{groupListed, groupsListed}
@@ -41,6 +43,7 @@ use Rattle.history.specs.Promise.{Carried, present, OfLine}
 use Rattle.examples.specs.Forms.{emptyCells, phase, worker, allIdle, busyOne, handedBack, line, handed, callsOf}
 use Rattle.examples.specs.Limits.{twoGroups}
 use Rattle.examples.specs.Orders.{oneLine, wrongLines}
+use Rattle.examples.specs.Repairs.{gapped, disordered, full, torn, oldImage, newImage}
 use Rattle.examples.specs.Examples.{four, atPrices, sheetItems, sheetPutsIn, looksUp, anyLine}
 
 -- ---- lists of calls
@@ -194,6 +197,10 @@ fourKeys = one 13 ∷ content 4 9 ∷ one 4 ∷ one 8 ∷ one 3 ∷ content 3 2 
 abbrev pub sixPlaces : List ℕ
 sixPlaces = 70 ∷ 71 ∷ 72 ∷ 73 ∷ 74 ∷ 75 ∷ []
 
+-- two labels in order, which share their home
+abbrev pub twoInOrder : List ℕ
+twoInOrder = ones (0 ∷ 0 ∷ 0 ∷ 13 ∷ 8 ∷ [])
+
 -- ---- what follows
 pub record Corollaries : Type 0 where
   -- two lists of calls so closed leave equal tables, whatever else stood in their lists of orders
@@ -269,11 +276,32 @@ pub record Corollaries : Type 0 where
   pub other-workers : (w : ℕ) → w ≢ 1 → doing (turnCall gateway fewWorkers four 1 .phase) w ≡ doing fewWorkers w
   -- the one sound table with a set of labels and the least price of each is its layout
   pub one-layout : four ≡ pricedLayout 5 label (modulo 5) fourKeys
-  -- the check passes a sound table and refuses another with 4, one also for a price; the count is that of the labels
+  -- the check passes sound tables and no others; it refuses with 18, 17 and 4, the last also for a price; the count is that of the labels
   pub passes : replyNumber (checkCall gateway four) ≡ 0
-  pub refuses : replyNumber (checkCall gateway (ones (0 ∷ 0 ∷ 0 ∷ 8 ∷ 13 ∷ []))) ≡ 4
+  pub passed-sound : Soundness gateway atPrices
+  pub refuses-disorder : replyNumber (checkCall gateway disordered) ≡ 18
+  pub refuses-gap : replyNumber (checkCall gateway gapped) ≡ 17
+  pub refuses-full : replyNumber (checkCall gateway full) ≡ 4
   pub refuses-price : replyNumber (checkCall gateway (0 ∷ 0 ∷ 0 ∷ content 8 10000000 ∷ 0 ∷ [])) ≡ 4
   pub count : countValue (countCall gateway four) ≡ 4
+  -- the kinds of unsound: a test passes exactly where its sentence holds, and no table is both gapped and disordered
+  pub intact-passes : isIntact disordered ≡ true
+  pub gap-passes : meetsEmpty (modulo 5) gapped ≡ true
+  pub disorder-passes : meetsKey (modulo 5) disordered ≡ true
+  pub intact-said : Intact twoInOrder
+  pub gap-said : Gapped (modulo 5) (torn 2 oldImage (emptyCells 5))
+  pub disorder-said : Disordered (modulo 5) (torn 1 oldImage newImage)
+  pub not-both : Disordered (modulo 5) gapped → ⊥
+  -- a table of no kind is sound, one of a kind is not
+  pub no-kind : SoundTable 5 (modulo 5) twoInOrder
+  pub no-kind-in-words : Soundness gateway twoInOrder
+  pub of-a-kind : Soundness gateway gapped → ⊥
+  -- 8 in cell 0 meets 13 and then the empty cell 4: the first cell on its way with no greater label
+  pub met-on-way : FirstOnPath 5 (modulo 5) (8 ∷ 0 ∷ 0 ∷ 13 ∷ 0 ∷ []) 0 4
+  pub broken-way : (s : ℕ) × Breaks 5 (modulo 5) (8 ∷ 0 ∷ 0 ∷ 13 ∷ 0 ∷ []) 0 s
+  -- a table without an empty cell is damaged, one with a price out of range too
+  pub full-damaged : Damaged full
+  pub priced-damaged : Damaged (0 ∷ 0 ∷ 0 ∷ content 8 10000000 ∷ 0 ∷ [])
   -- list fills the lent list and gives the front part; a list that is too short gets 12 and keeps its contents
   pub listed : getD (listAfter gateway four sixPlaces) 2 0 ≡ one 13
   pub behind : getD (listAfter gateway four sixPlaces) 4 0 ≡ 74
@@ -296,6 +324,15 @@ pub record CallCorollaries : Type 0 where
   -- a refused one hands back a shut record of length 2
   pub refused-shut : openCall gateway 4 1 four wrongLines .phase .shut ≡ true
   pub refused-cells : openCall gateway 4 1 four wrongLines .phase .length ≡ 2
+  -- an accepted one had a sound table; others are refused with 17 and 18 before the lines are read
+  pub opened-sound : Soundness gateway atPrices
+  -- and on a sound table it is refused neither with 4 nor with 17 or 18, here with 6
+  pub not-unsound : (replyNumber (openCall gateway 1 2 (emptyCells 5) workerBeforeBlank .reply) ≢ 4)
+      × (replyNumber (openCall gateway 1 2 (emptyCells 5) workerBeforeBlank .reply) ≢ 17)
+      × (replyNumber (openCall gateway 1 2 (emptyCells 5) workerBeforeBlank .reply) ≢ 18)
+  pub gap-refused : replyNumber (openCall gateway 1 2 gapped wrongLines .reply) ≡ 17
+  pub disorder-refused : replyNumber (openCall gateway 1 2 disordered wrongLines .reply) ≡ 18
+  pub looks-refused : replyNumber (openCall gateway 3 2 disordered wrongLines .reply) ≡ 18
   -- 2 cells with {7} open for 7 alone; another label gets 9
   pub room : replyNumber (openCall gateway 1 1 (ones (0 ∷ 7 ∷ [])) (oneLine 7 1 0) .reply) ≡ 0
   pub full : replyNumber (openCall gateway 1 1 (ones (0 ∷ 7 ∷ [])) (oneLine 4 1 0) .reply) ≡ 9

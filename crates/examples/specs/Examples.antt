@@ -14,6 +14,7 @@ use Rattle.examples.specs.Traces.{traces}
 use Rattle.examples.specs.Bounds.{bounds}
 use Rattle.examples.specs.Limits.{limits}
 use Rattle.examples.specs.Orders.{oneLine, wrongLines, orders}
+use Rattle.examples.specs.Repairs.{repairs}
 
 -- document 01's four keys in five cells
 abbrev pub four : List ℕ
@@ -162,9 +163,9 @@ prices =
     ∷ calling 1 2 assortment sentAgain grocer 17 (content 4 2 ∷ content 3 4 ∷ 0 ∷ content 13 1 ∷ content 8 5 ∷ [])
     ∷ []
 
--- with turns one by one, spoilt records, limits, orders, and the schedules of steps
+-- with turns one by one, spoilt records, limits, orders, the repair bench, and the schedules of steps
 abbrev pub examples : List Example
-examples = tables ++ phases ++ prices ++ traces ++ bounds ++ limits ++ orders ++ map closing schedules
+examples = tables ++ phases ++ prices ++ traces ++ bounds ++ limits ++ orders ++ repairs ++ map closing schedules
 
 abbrev pub ExamplesPromise : Type 0
 ExamplesPromise = AllSay examples

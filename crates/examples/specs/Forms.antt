@@ -111,6 +111,9 @@ pub data Example : Type 0 where
   ordering : (p : Phase) (orders : List Order) (i w v number : ℕ) (q : Phase) → Example
   -- openings without orders, check, count and list on n empty cells answer with this number; the count gives 0, and the list stays as it is
   empties : (n number : ℕ) → Example
+  -- check, count, list and the openings of every kind refuse the table with this number, whatever crew, orders and list they are lent within the limits;
+  -- the list stays as it is
+  marked : (table : List ℕ) (number : ℕ) → Example
   -- from an opening of kind k with m workers on the table, lent these orders, each call is answered as told; so many turns are counted; in the end the
   -- phase is closed, and this table is left
   calling : (k m : ℕ) (table : List ℕ) (orders : List Order) (calls : List Told) (counted : ℕ) (closed : List ℕ) → Example
@@ -161,6 +164,13 @@ Says (empties n r) =
     × (countNumber (countCall gateway (emptyCells n)) ≡ r)
     × (countValue (countCall gateway (emptyCells n)) ≡ 0)
     × ((out : List ℕ) → (countNumber (listCall gateway (emptyCells n) out) ≡ r) × (listAfter gateway (emptyCells n) out ≡ out))
+Says (marked t r) =
+    ((k m : ℕ) (os : List Order) → (1 ≤ k) × (k ≤ 3) → (1 ≤ m) × (m ≤ 16) → length os ≤ 65536
+    → (replyNumber (openCall gateway k m t os .reply) ≡ r) × (openCall gateway k m t os .phase ≡ handedBack))
+    × (replyNumber (checkCall gateway t) ≡ r)
+    × (countNumber (countCall gateway t) ≡ r)
+    × (countValue (countCall gateway t) ≡ 0)
+    × ((out : List ℕ) → (countNumber (listCall gateway t out) ≡ r) × (listAfter gateway t out ≡ out) × (listFront gateway t out ≡ []))
 Says (calling k m t os cs i u) =
     (replyNumber (openReply gateway k m t os) ≡ 0)
     × (answersOf gateway os (callsOf cs) (history.opening gateway k m t os) ≡ answersTold cs)

@@ -7,4 +7,5 @@ pub mod Lengths
 pub mod Limits
 pub mod Meanings
 pub mod Orders
+pub mod Repairs
 pub mod Traces

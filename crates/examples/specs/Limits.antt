@@ -34,11 +34,11 @@ openings =
     ∷ opens 2 3 (ones (0 ∷ 6 ∷ 0 ∷ 0 ∷ 9 ∷ []))
     ∷ opens 3 3 (ones (0 ∷ 6 ∷ 0 ∷ 0 ∷ 9 ∷ []))
     ∷ barred 4 3 (ones (0 ∷ 6 ∷ 0 ∷ 0 ∷ 9 ∷ [])) 3
-    -- first to apply wins: 1, 2, 3, 4
+    -- first to apply wins: 1, 2, 3, and then that the table is not sound
     ∷ barred 0 0 (ones (3 ∷ [])) 1
     ∷ barred 4 17 (ones (0 ∷ 6 ∷ 0 ∷ [])) 2
     ∷ barred 4 16 (ones (0 ∷ 6 ∷ 0 ∷ [])) 3
-    ∷ barred 3 16 (ones (0 ∷ 6 ∷ 0 ∷ [])) 4
+    ∷ barred 3 16 (ones (0 ∷ 6 ∷ 0 ∷ [])) 17
     ∷ []
 
 -- another table, no worker, shut and spoilt: 13, 11, 5, 6
@@ -77,9 +77,9 @@ listings =
     -- no labels
     ∷ lists (ones (0 ∷ 0 ∷ 0 ∷ [])) (70 ∷ []) (70 ∷ []) []
     ∷ lists (ones (0 ∷ 0 ∷ 0 ∷ [])) [] [] []
-    -- not sound: 4, also where the list is too short; length 1: 1, also where the table is not sound
-    ∷ unlisted (ones (0 ∷ 0 ∷ 0 ∷ 8 ∷ 13 ∷ [])) (70 ∷ 71 ∷ 72 ∷ []) 4
-    ∷ unlisted (ones (0 ∷ 0 ∷ 0 ∷ 8 ∷ 13 ∷ [])) (70 ∷ []) 4
+    -- not sound, also where the list is too short; length 1: 1, also where the table is not sound
+    ∷ unlisted (ones (0 ∷ 0 ∷ 0 ∷ 8 ∷ 13 ∷ [])) (70 ∷ 71 ∷ 72 ∷ []) 18
+    ∷ unlisted (ones (0 ∷ 0 ∷ 0 ∷ 8 ∷ 13 ∷ [])) (70 ∷ []) 18
     ∷ unlisted (ones (0 ∷ [])) (70 ∷ []) 1
     ∷ unlisted (ones (7 ∷ [])) [] 1
     ∷ unlisted [] (70 ∷ []) 1
@@ -90,7 +90,7 @@ listings =
     ∷ counting (ones (4 ∷ 3 ∷ 0 ∷ 13 ∷ 8 ∷ [])) 0 4
     ∷ counting (ones (0 ∷ 7 ∷ [])) 0 1
     ∷ counting twoGroups 0 4
-    ∷ counting (ones (7 ∷ 0 ∷ [])) 4 0
+    ∷ counting (ones (7 ∷ 0 ∷ [])) 17 0
     ∷ counting (ones (8 ∷ 7 ∷ [])) 4 0
     ∷ counting (ones (7 ∷ [])) 1 0
     -- occupancy words and places: keys in the cells 0, 1 and 3; a word's highest bit is cell 63; bits past the table are 0

@@ -3,9 +3,10 @@ use mathlib.Core.Path.{_≡_}
 use mathlib.Core.Logic.{_≢_}
 use mathlib.Core.Bool.{true, false}
 use mathlib.Core.List.{[], _∷_}
-use Prim.Native.Nat.{_≤_}
+use Prim.Native.Nat.{ℕ, _≤_}
 use Rattle.layout.specs.Home.{modulo}
 use Rattle.prices.specs.Contents.{label, content}
+use Rattle.flaws.specs.Promise.{Intact, Breaks, Gapped, Disordered}
 use Rattle.orders.specs.Orders.{orderWith}
 use Rattle.orders.specs.declared.Order.{Order}
 use Rattle.rule.specs.Events.{after, order}
@@ -16,6 +17,7 @@ use Rattle.history.specs.Promise.{OfLine}
 use Rattle.examples.specs.Examples.{atPrices}
 use Rattle.examples.specs.Corollaries.{priceItems, workerBeforeBlank}
 use Rattle.examples.specs.Orders.{oneLine, atOnes}
+use Rattle.examples.specs.Repairs.{gapped, disordered, full}
 
 pub record Meanings : Type 0 where
   -- equal least ordered prices: a higher price besides plays no part, another least one does; outside put-in shifts no price does
@@ -53,3 +55,21 @@ pub record Meanings : Type 0 where
   pub of-line : OfLine priceItems (content 8 3)
   pub not-mixed : OfLine priceItems (content 8 7) → ⊥
   pub not-listed : OfLine priceItems (content 4 5) → ⊥
+  -- an intact table has an empty cell, and beside every label a price from 1 to 9,999,999; a price alone is no label
+  pub intact : Intact disordered
+  pub not-full : Intact full → ⊥
+  pub not-unpriced : Intact (0 ∷ content 7 0 ∷ []) → ⊥
+  pub not-overpriced : Intact (0 ∷ content 7 10000000 ∷ []) → ⊥
+  pub not-unlabelled : Intact (0 ∷ 7 ∷ []) → ⊥
+  -- a label breaks the order by the first content on its way that isn't greater: 8 in cell 0 by the empty cell 4 behind 13, by the empty cell 3 and not
+  -- by 4 behind it; in a sound table none does, nor by its own content
+  pub behind-greater : Breaks 5 (modulo 5) (8 ∷ 0 ∷ 0 ∷ 13 ∷ 0 ∷ []) 0 1
+  pub empty-first : Breaks 5 (modulo 5) (8 ∷ 0 ∷ 0 ∷ 0 ∷ 4 ∷ []) 0 0
+  pub not-nearest : Breaks 5 (modulo 5) (8 ∷ 0 ∷ 0 ∷ 0 ∷ 4 ∷ []) 0 1 → ⊥
+  pub in-order : (j s : ℕ) → Breaks 5 (modulo 5) (0 ∷ 0 ∷ 0 ∷ 13 ∷ 8 ∷ []) j s → ⊥
+  -- the lowest-numbered cell decides
+  pub gap : Gapped (modulo 5) gapped
+  pub disorder : Disordered (modulo 5) disordered
+  pub empty-decides : Gapped (modulo 5) (ones (8 ∷ 0 ∷ 0 ∷ 0 ∷ 4 ∷ []))
+  pub lowest-gap : Gapped (modulo 5) (ones (6 ∷ 0 ∷ 0 ∷ 8 ∷ 13 ∷ []))
+  pub lowest-disorder : Disordered (modulo 5) (ones (0 ∷ 1 ∷ 6 ∷ 0 ∷ 3 ∷ []))

@@ -55,7 +55,7 @@ fourWrong = orderWith 0 0 99 ∷ orderWith 5 1 0 ∷ orderWith 6 1 0 ∷ orderWi
 abbrev pub threeWrong : List Order
 threeWrong = orderWith 0 0 99 ∷ orderWith 5 1 0 ∷ orderWith 6 1 0 ∷ []
 
--- 1, 2, 3, 16, 4, 7, 14, 6, 9
+-- 1, 2, 3, 16, that the table is not sound (here 17), 7, 14, 6, 9
 unfoldable pub openingSequence : List Example
 openingSequence =
     barredIn threeLines 1 17 (ones (7 ∷ [])) fourWrong 1
@@ -66,21 +66,21 @@ openingSequence =
     ∷ barredIn threeLines 1 1 (ones (7 ∷ 0 ∷ [])) fourWrong 16
     ∷ barredIn threeLines 1 1 (ones (0 ∷ 7 ∷ [])) (atOnes (7 ∷ 7 ∷ 7 ∷ 7 ∷ [])) 16
     ∷ opensIn threeLines 1 1 (ones (0 ∷ 7 ∷ [])) (atOnes (7 ∷ 7 ∷ 7 ∷ []))
-    ∷ barredIn threeLines 1 1 (ones (7 ∷ 0 ∷ [])) threeWrong 4
+    ∷ barredIn threeLines 1 1 (ones (7 ∷ 0 ∷ [])) threeWrong 17
     ∷ barredIn threeLines 1 1 (ones (0 ∷ 7 ∷ [])) threeWrong 7
     ∷ barredIn threeLines 1 1 (ones (0 ∷ 7 ∷ [])) (orderWith 5 0 99 ∷ orderWith 6 1 0 ∷ []) 14
     ∷ barredIn threeLines 1 1 (ones (0 ∷ 7 ∷ [])) (orderWith 5 1 99 ∷ orderWith 6 1 0 ∷ []) 6
     ∷ barredIn threeLines 1 1 (ones (0 ∷ 7 ∷ [])) (orderWith 5 1 0 ∷ orderWith 6 1 0 ∷ []) 9
     -- a list of four lines is not long in document 01's model
-    ∷ barredIn gateway 1 1 (ones (7 ∷ 0 ∷ [])) fourWrong 4
+    ∷ barredIn gateway 1 1 (ones (7 ∷ 0 ∷ [])) fourWrong 17
     ∷ barredIn gateway 1 1 (ones (0 ∷ 7 ∷ [])) fourWrong 7
     ∷ barredIn gateway 4 1 (ones (0 ∷ 7 ∷ [])) fourWrong 3
     ∷ opensIn gateway 1 1 (ones (0 ∷ 7 ∷ [])) (atOnes (7 ∷ 7 ∷ 7 ∷ 7 ∷ []))
     -- kinds 2 and 3 read no list, be it long, with wrong lines or with too many labels
     ∷ opensIn threeLines 2 1 (ones (0 ∷ 7 ∷ [])) fourWrong
     ∷ opensIn threeLines 3 1 (ones (0 ∷ 7 ∷ [])) fourWrong
-    ∷ barredIn threeLines 2 1 (ones (7 ∷ 0 ∷ [])) fourWrong 4
-    ∷ barredIn threeLines 3 1 (ones (7 ∷ 0 ∷ [])) fourWrong 4
+    ∷ barredIn threeLines 2 1 (ones (7 ∷ 0 ∷ [])) fourWrong 17
+    ∷ barredIn threeLines 3 1 (ones (7 ∷ 0 ∷ [])) fourWrong 17
     ∷ opensIn gateway 2 1 (ones (0 ∷ 7 ∷ [])) (oneLine 0 0 99)
     ∷ opensIn gateway 3 1 (ones (0 ∷ 7 ∷ [])) (oneLine 0 0 99)
     ∷ opensIn gateway 2 1 (ones (0 ∷ 7 ∷ [])) (atOnes (1 ∷ 2 ∷ 3 ∷ []))

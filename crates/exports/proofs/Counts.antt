@@ -22,14 +22,13 @@ module _ (t out : List ℕ) (c : ℕ) where
 
   is-count : countCall gateway t ≡ counted.Keys c → (c ≡ size (labels label t)) × (length t ≤ 8192)
   is-count e =
-      let (_, (_, none)) = at-rest .check in
-      let ((_, sized), sound) = none .0 (sym (at-rest .count-refused) ∙ ap countNumber e) in
-      (sym (ap countValue e) ∙ at-rest .count-true (sized, sound), sized .1)
+      let usable = at-rest .passes .0 (sym (at-rest .count-refused) ∙ ap countNumber e) in
+      (sym (ap countValue e) ∙ at-rest .count-true usable, usable .0 .1)
 
   is-listed : listCall gateway t out ≡ counted.Keys c → (c ≡ size (labels label t)) × (length t ≤ 8192)
   is-listed e =
-      let (_, (_, (_, none))) = at-rest .list in
-      let (((_, sized), sound), _) = none .0 (ap countNumber e) in
+      let (_, (_, (_, (_, (_, none))))) = at-rest .list in
+      let (((((_, sized), _), _), _), _) = none .0 (ap countNumber e) in
       (sym (ap countValue e) ∙ at-rest .list-true (ap countNumber e), sized .1)
 
 pub counts-promise : CountsPromise

@@ -7,11 +7,11 @@ use Prim.Native.Nat.{ℕ, zero, suc, _≤_}
 use native.Mathlib.Omega.{arith}
 use lib.ListN.{length, getD, replicate, length-replicate}
 use Rattle.ring.specs.Counting.{count}
-use Rattle.ring.specs.Ring.{wrap, dist}
+use Rattle.ring.specs.Ring.{wrap, probe, dist}
 use Rattle.ring.proofs.Tests.{not-both}
 use Rattle.layout.specs.Layout.{into, descending}
-use Rattle.layout.specs.Sound.{all, some, clear, isSound}
-use Rattle.prices.specs.Contents.{isSoundTable}
+use Rattle.ring.specs.Each.{all, some, first}
+use Rattle.flaws.specs.Flaws.{meetsEmpty, meetsKey}
 use Rattle.orders.specs.Orders.{lineFault, linesFault}
 use Rattle.orders.specs.declared.Order.{Order}
 use Rattle.rule.specs.Rule.{settled, absorbed, insertStep, findStep, rule}
@@ -184,7 +184,7 @@ unfolding bytesOf digitsOf digitsWithin
 cells-lead = more [] blank [] none (cellsLine 5) (plains .cells .0) _ refl (before .cells 5 (omega arith) (omega arith)) (bytesOf "1\tok\n") refl
 
 check-passes : checkCall gateway (replicate 5 0) ≡ Accepted
-unfolding isSoundTable isSound all some clear dist wrap
+unfolding meetsEmpty meetsKey first all some dist probe wrap
 check-passes = refl
 
 -- ---- `open` 1 2 without items
@@ -198,7 +198,7 @@ abbrev openOut : List ℕ
 openOut = bytesOf "1\tok\n2\tok\n"
 
 open-accepted : (openCall gateway 1 2 (replicate 5 0) [] .reply ≡ Accepted) × (openState .phase .kind ≡ 1) × (openState .phase .shut ≡ false)
-unfolding isSoundTable isSound all some clear dist wrap lineFault linesFault into descending
+unfolding meetsEmpty meetsKey first all some dist probe wrap lineFault linesFault into descending
 open-accepted = (refl, refl, refl)
 
 open-lead : Leads openLines openState openOut
@@ -210,7 +210,7 @@ running : InOpen openState
 running = sheet-promise .opened openState (open-accepted .2)
 
 worker-idle : turnCall gateway (openState .phase) (replicate 5 0) 1 .reply ≡ Answered Idle
-unfolding isWellFormed isSoundTable isSound all some clear dist wrap count lineFault linesFault into descending
+unfolding isWellFormed meetsEmpty meetsKey first all some dist probe wrap count lineFault linesFault into descending
 worker-idle = refl
 
 -- ---- two items
@@ -253,7 +253,7 @@ abbrev startOut : List ℕ
 startOut = bytesOf "1\tok\n2\tok\n3\tok\n4\tok\n"
 
 start-accepted : (openCall gateway 1 2 (replicate 5 0) items .reply ≡ Accepted) × (startState .phase .kind ≡ 1) × (startState .phase .shut ≡ false)
-unfolding isSoundTable isSound all some clear dist wrap lineFault linesFault into descending
+unfolding meetsEmpty meetsKey first all some dist probe wrap lineFault linesFault into descending
 start-accepted = (refl, refl, refl)
 
 start-lead : Leads startLines startState startOut
@@ -266,28 +266,28 @@ starting = sheet-promise .opened startState (start-accepted .2)
 
 -- a place past the list
 past-refused : orderCall gateway (startState .phase) items 2 0 0 .reply ≡ Refused NoLine
-unfolding isWellFormed isSoundTable isSound all some clear dist wrap count lineFault linesFault into descending
+unfolding isWellFormed meetsEmpty meetsKey first all some dist probe wrap count lineFault linesFault into descending
 past-refused = refl
 
 -- ---- two orders and a run
-abbrev first : Replied
-first = orderCall gateway (startState .phase) items 0 0 0
+abbrev placed : Replied
+placed = orderCall gateway (startState .phase) items 0 0 0
 
 abbrev second : Replied
-second = orderCall gateway (first .phase) items 1 0 0
+second = orderCall gateway (placed .phase) items 1 0 0
 
 abbrev firstState : State
-firstState = stateWith (first .phase) (replicate 5 0) items
+firstState = stateWith (placed .phase) (replicate 5 0) items
 
 abbrev secondState : State
 secondState = stateWith (second .phase) (replicate 5 0) items
 
-first-accepted : (first .reply ≡ Accepted) × (first .phase .kind ≡ 1) × (first .phase .shut ≡ false)
-unfolding isWellFormed isSoundTable isSound all some clear dist wrap count lineFault linesFault into descending
+first-accepted : (placed .reply ≡ Accepted) × (placed .phase .kind ≡ 1) × (placed .phase .shut ≡ false)
+unfolding isWellFormed meetsEmpty meetsKey first all some dist probe wrap count lineFault linesFault into descending
 first-accepted = (refl, refl, refl)
 
 second-accepted : (second .reply ≡ Accepted) × (second .phase .shut ≡ false)
-unfolding isWellFormed isSoundTable isSound all some clear dist wrap count lineFault linesFault into descending
+unfolding isWellFormed meetsEmpty meetsKey first all some dist probe wrap count lineFault linesFault into descending
 second-accepted = (refl, refl)
 
 abbrev firstLines : List (List ℕ)
@@ -310,7 +310,7 @@ second-lead = more firstLines firstState _ first-lead (placeLine 1) (plains .pla
 -- how the workers finish
 run-told : workersText (second .phase .crew) (finishText (run gateway (second .phase) (replicate 5 0) .dealt .finishes)) ≡ bytesOf "\tdone\tdone"
 unfolding
-    bytesOf laps deal dealTo isWellFormed rule settled absorbed insertStep isSoundTable isSound all some clear dist wrap count
+    bytesOf laps deal dealTo isWellFormed rule settled absorbed insertStep meetsEmpty meetsKey first all some dist probe wrap count
     lineFault linesFault into descending
 run-told = refl
 
@@ -345,13 +345,13 @@ closedOut = bytesOf "1\tok\n2\tok\n3\tok\n4\tok\n5\tok\n6\tok\n7\tdone\tdone\n8\
 
 close-accepted : (closed .reply ≡ Accepted) × (closed .phase .shut ≡ true) × (ran .dealt .phase .kind ≡ 1)
 unfolding
-    laps deal dealTo isWellFormed rule settled absorbed insertStep isSoundTable isSound all some clear dist wrap count lineFault linesFault into descending
+    laps deal dealTo isWellFormed rule settled absorbed insertStep meetsEmpty meetsKey first all some dist probe wrap count lineFault linesFault into descending
 close-accepted = (refl, refl, refl)
 
 -- the table, each label with its price, is sound
 table-told : (checkCall gateway (ran .table) ≡ Accepted) × (listText (entriesOf (ran .table)) ≡ bytesOf "\t2\t8\t15\t3\t20")
 unfolding
-    bytesOf digitsOf digitsWithin laps deal dealTo isWellFormed rule settled absorbed insertStep isSoundTable isSound all some clear dist wrap count
+    bytesOf digitsOf digitsWithin laps deal dealTo isWellFormed rule settled absorbed insertStep meetsEmpty meetsKey first all some dist probe wrap count
     lineFault linesFault into descending
 table-told = (refl, refl)
 
@@ -369,7 +369,7 @@ nextLines = closedLines ++ openLine 1 2 ∷ []
 
 next-opens : (openCall gateway 1 2 (ran .table) [] .reply ≡ Accepted) × (nextState .phase .shut ≡ false) × (nextState .phase .kind ≡ 1)
 unfolding
-    laps deal dealTo isWellFormed rule settled absorbed insertStep isSoundTable isSound all some clear dist wrap count lineFault linesFault into descending
+    laps deal dealTo isWellFormed rule settled absorbed insertStep meetsEmpty meetsKey first all some dist probe wrap count lineFault linesFault into descending
 next-opens = (refl, refl, refl)
 
 next-lead : Leads nextLines nextState (closedOut ++ bytesOf "9\tok\n")
@@ -379,7 +379,7 @@ next-lead = more closedLines closedState _ closed-lead (openLine 1 2) (plains .o
 
 none-left : orderCall gateway (nextState .phase) [] 0 0 0 .reply ≡ Refused NoLine
 unfolding
-    laps deal dealTo isWellFormed rule settled absorbed insertStep isSoundTable isSound all some clear dist wrap count lineFault linesFault into descending
+    laps deal dealTo isWellFormed rule settled absorbed insertStep meetsEmpty meetsKey first all some dist probe wrap count lineFault linesFault into descending
 none-left = refl
 
 -- ---- a look-up
@@ -394,7 +394,7 @@ findOut = closedOut ++ bytesOf "9\tok\n"
 
 find-opens : (openCall gateway 3 1 (ran .table) [] .reply ≡ Accepted) × (findState .phase .shut ≡ false) × (findState .phase .kind ≡ 3)
 unfolding
-    laps deal dealTo isWellFormed rule settled absorbed insertStep isSoundTable isSound all some clear dist wrap count lineFault linesFault into descending
+    laps deal dealTo isWellFormed rule settled absorbed insertStep meetsEmpty meetsKey first all some dist probe wrap count lineFault linesFault into descending
 find-opens = (refl, refl, refl)
 
 not-put-in : findState .phase .kind ≢ 1
@@ -419,7 +419,7 @@ wantedLines = findLines ++ orderLine 0 8 ∷ []
 
 wanted-accepted : (wanted .reply ≡ Accepted) × (wanted .phase .shut ≡ false)
 unfolding
-    laps deal dealTo isWellFormed rule settled absorbed insertStep isSoundTable isSound all some clear dist wrap count lineFault linesFault into descending
+    laps deal dealTo isWellFormed rule settled absorbed insertStep meetsEmpty meetsKey first all some dist probe wrap count lineFault linesFault into descending
 wanted-accepted = (refl, refl)
 
 wanted-lead : Leads wantedLines wantedState (findOut ++ bytesOf "10\tok\n")
@@ -429,7 +429,7 @@ wanted-lead = more findLines findState _ find-lead (orderLine 0 8) (plains .orde
 
 found-told : workersText (wanted .phase .crew) (finishText (run gateway (wanted .phase) (ran .table) .dealt .finishes)) ≡ bytesOf "\t15"
 unfolding
-    bytesOf digitsOf digitsWithin laps deal dealTo isWellFormed rule settled absorbed insertStep findStep isSoundTable isSound all some clear dist wrap
+    bytesOf digitsOf digitsWithin laps deal dealTo isWellFormed rule settled absorbed insertStep findStep meetsEmpty meetsKey first all some dist probe wrap
     count lineFault linesFault into descending
 found-told = refl
 
@@ -449,11 +449,11 @@ abbrev soughtState : State
 soughtState = stateWith (closeCall gateway (seekState .phase) .phase) (replicate 5 0) items
 
 seek-opens : (openCall gateway 3 1 (replicate 5 0) items .reply ≡ Accepted) × (seekState .phase .kind ≡ 3)
-unfolding isSoundTable isSound all some clear dist wrap
+unfolding meetsEmpty meetsKey first all some dist probe wrap
 seek-opens = (refl, refl)
 
 seek-closes : (closeCall gateway (seekState .phase) .reply ≡ Accepted) × (soughtState .phase .shut ≡ true)
-unfolding isWellFormed isSoundTable isSound all some clear dist wrap count
+unfolding isWellFormed meetsEmpty meetsKey first all some dist probe wrap count
 seek-closes = (refl, refl)
 
 abbrev seekLines : List (List ℕ)
@@ -484,7 +484,7 @@ small-lead = more soughtLines soughtState _ sought-lead (cellsLine 2) (plains .c
     (sheet-promise .shut soughtState (seek-closes .1) .cells 2 (omega arith) (omega arith)) (bytesOf "7\tok\n") refl
 
 full : openCall gateway 1 2 (replicate 2 0) items .reply ≡ Refused Full
-unfolding isSoundTable isSound all some clear dist wrap lineFault linesFault into descending
+unfolding meetsEmpty meetsKey first all some dist probe wrap lineFault linesFault into descending
 full = refl
 
 -- ---- 1,024 items and one more

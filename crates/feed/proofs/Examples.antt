@@ -4,8 +4,8 @@ use lib.Count.{ones}
 use Rattle.words.specs.Words.{placeOf}
 use Rattle.ring.specs.Ring.{wrap, probe, dist, prev}
 use Rattle.ring.specs.Counting.{tally, count}
-use Rattle.prices.specs.Contents.{isSoundTable}
-use Rattle.layout.specs.Sound.{all, some, clear, isSound}
+use Rattle.flaws.specs.Flaws.{meetsEmpty, meetsKey}
+use Rattle.ring.specs.Each.{all, some, first}
 use Rattle.layout.specs.Layout.{into, descending}
 use Rattle.orders.specs.Orders.{lineFault, linesFault}
 use Rattle.rule.specs.Rule.{settled, absorbed, insertStep, findStep, fits, narrow, deleteStep, rule}
@@ -24,5 +24,5 @@ pub sheets-promise : SheetsPromise
 unfolding
     bytesOf outputOf linesOf printedFrom answerOf readingOf commandIn same numbersOf areNumbers isNumber valueFrom leads digits fieldsOf digitsOf digitsWithin
     laps deal dealTo isWellFormed rule settled absorbed insertStep findStep deleteStep fits narrow
-    isSoundTable isSound all some clear dist probe prev wrap placeOf count tally ones lineFault linesFault into descending
-sheets-promise = (refl, (refl, (refl, (refl, (refl, (refl, (refl, (refl, (refl, (refl, (refl, (refl, (refl, (refl, (refl, (refl, (refl, (refl, (refl, (refl, (refl, (refl, (refl, (refl, (refl, (refl, (refl, (refl, (refl, (refl, (refl, (refl, (refl, (refl, (refl, (refl, (refl, (refl, (refl, (refl, (refl, (refl, (refl, (refl, (refl, (refl, (refl, (refl, tt))))))))))))))))))))))))))))))))))))))))))))))))
+    meetsEmpty meetsKey first all some dist probe prev wrap placeOf count tally ones lineFault linesFault into descending
+sheets-promise = (refl, (refl, (refl, (refl, (refl, (refl, (refl, (refl, (refl, (refl, (refl, (refl, (refl, (refl, (refl, (refl, (refl, (refl, (refl, (refl, (refl, (refl, (refl, (refl, (refl, (refl, (refl, (refl, (refl, (refl, (refl, (refl, (refl, (refl, (refl, (refl, (refl, (refl, (refl, (refl, (refl, (refl, (refl, (refl, (refl, (refl, (refl, (refl, (refl, tt)))))))))))))))))))))))))))))))))))))))))))))))))

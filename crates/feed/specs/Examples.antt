@@ -33,10 +33,10 @@ puttingIn = record {
       ++ bytesOf "27\tdone\t-\n28\tok\n29\tdone\t-\n30\tok\n31\trefused\t11\n32\t3\t8\t9999999\t4\t1\t6\t5\n";
 }
 
--- Every answer: on, done, a price, no, idle, -, each refusal that a sheet can give (1, 2, 3, 4, 6 to 11, 14, 15), and bad, behind which no line is
--- answered. After the sheet before, 8 is taken out, the table is listed while 4 stands twice, and labels are looked up. A sheet gives no 5, since `cells` in
--- an open shift is bad and a shut one answers 11 first; no 12, since the list lent is as long as the table; no 13, since no record is spoilt; and no 16,
--- since it keeps at most 1,024 items.
+-- Every answer: on, done, a price, no, idle, -, each refusal that a sheet can give (1, 2, 3, 6 to 11, 14, 15, 18; 17 is in the next), and bad, behind
+-- which no line is answered. After the sheet before, 8 is taken out, the table is listed while 4 stands twice, and labels are looked up. A sheet gives
+-- no 4, since its tables have an empty cell and right prices; no 5, since `cells` in an open shift is bad and a shut one answers 11 first; no 12, since
+-- the list lent is as long as the table; no 13, since no record is spoilt; and no 16, since it keeps at most 1,024 items.
 abbrev pub every : Sheet
 every = record {
   input = puttingIn .input
@@ -45,8 +45,19 @@ every = record {
       ++ bytesOf "item\t0\t9\t0\nopen\t1\t1\nopen\t3\t1\ncells\t2\nlist\n";
   output = puttingIn .output
       ++ bytesOf "33\tok\n34\trefused\t7\n35\trefused\t6\n36\tok\n37\trefused\t8\n38\ton\n39\ton\n40\ton\n41\ton\n42\ton\n"
-      ++ bytesOf "43\trefused\t4\n44\tdone\t-\n45\tok\n46\t2\t4\t1\t6\t5\n47\tok\n48\tok\n49\tok\n50\t1\tno\n51\tok\n52\t-\t1\n"
+      ++ bytesOf "43\trefused\t18\n44\tdone\t-\n45\tok\n46\t2\t4\t1\t6\t5\n47\tok\n48\tok\n49\tok\n50\t1\tno\n51\tok\n52\t-\t1\n"
       ++ bytesOf "53\tidle\n54\trefused\t6\n55\tok\n56\tok\n57\trefused\t14\n58\tok\n59\tbad\n";
+}
+
+-- Two take-outs at once: when the table is listed, 4 stands in cell 1, and its home, cell 0, is empty.
+abbrev pub gapped : Sheet
+gapped = record {
+  input = bytesOf "cells\t4\nitem\t0\t8\t1\nitem\t0\t9\t2\nitem\t0\t4\t3\nopen\t1\t1\norder\t0\nrun\norder\t1\nrun\norder\t2\nrun\nclose\nlist\n"
+      ++ bytesOf "open\t2\t2\norder\t0\t4\nturn\t0\nturn\t0\nturn\t0\nturn\t0\nturn\t0\norder\t1\t9\nturn\t1\nturn\t1\nturn\t1\nturn\t0\n"
+      ++ bytesOf "order\t0\t8\nturn\t0\nturn\t0\nturn\t0\nturn\t0\nturn\t0\nturn\t0\nturn\t1\nlist\nrun\nclose\nlist\n";
+  output = bytesOf "1\tok\n2\tok\n3\tok\n4\tok\n5\tok\n6\tok\n7\tdone\n8\tok\n9\tdone\n10\tok\n11\tdone\n12\tok\n13\t3\t8\t1\t9\t2\t4\t3\n"
+      ++ bytesOf "14\tok\n15\tok\n16\ton\n17\ton\n18\ton\n19\ton\n20\ton\n21\tok\n22\ton\n23\ton\n24\ton\n25\tdone\n"
+      ++ bytesOf "26\tok\n27\ton\n28\ton\n29\ton\n30\ton\n31\ton\n32\tdone\n33\ton\n34\trefused\t17\n35\t-\tdone\n36\tok\n37\t0\n";
 }
 
 -- The lower price stands: two workers order 3 at different prices; a lower price replaces it, a higher one and the same one change nothing, also in the
@@ -211,7 +222,7 @@ AllPrint (s ∷ ss) = Prints s × AllPrint ss
 
 abbrev pub sheets : List Sheet
 sheets =
-    document01 ∷ puttingIn ∷ every ∷ cheapest ∷ carried ∷ meeting ∷ three ∷ kept ∷ seven ∷ grocer ∷ withoutLabel ∷ withoutPrice ∷ overpriced ∷ earliest
+    document01 ∷ puttingIn ∷ every ∷ gapped ∷ cheapest ∷ carried ∷ meeting ∷ three ∷ kept ∷ seven ∷ grocer ∷ withoutLabel ∷ withoutPrice ∷ overpriced ∷ earliest
     ∷ empty ∷ blankLine ∷ unended ∷ long ∷ carriageReturn ∷ shut
     ∷ badIn "1" "cells\t2" ∷ badIn "2" "open\t1\t1" ∷ badIn "3" "turn" ∷ badIn "1" ""
     -- an item in an open shift

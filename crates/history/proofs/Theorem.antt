@@ -42,7 +42,7 @@ history M proper k m t os accepted cs =
     let home = M .home n in
     let hb = homes M proper k m t os accepted in
     let q = open-passed M k m t os accepted in
-    let ok = q .sound in
+    let ok = q .sound proper in
     let kind = q .kind in
     let s = after M k m t os cs in
     let start = opening-shows M proper k m t os accepted in
@@ -103,7 +103,7 @@ any-lists M proper k m t os accepted cs =
     let (es, h) = simulates-lent M k n m cs (opening M k m t os) (events.opened m t) start in
     let s = afterLent M k m t os cs in
     let r = events.after k n m label home t es in
-    let p = phases n m label home (record { blank = refl; inside = homes M proper k m t os accepted }) t (contents .priced n home t (q .sound)) es in
+    let p = phases n m label home (record { blank = refl; inside = homes M proper k m t os accepted }) t (contents .priced n home t (q .sound proper)) es in
     let o : k ≡ 1 → Carries n label home t r = λ is. subst (λ (j : ℕ). Carries n label home t (events.after j n m label home t es)) (sym is) (p .carries) in
     record {
       ordering = λ is. ordering k n m home t s r h (o is);

@@ -6,10 +6,10 @@ use lib.Dec.{T}
 use lib.ListN.{length, drop}
 use Rattle.ring.specs.Ring.{wrap, probe, dist, prev}
 use Rattle.ring.specs.Counting.{count}
-use Rattle.layout.specs.Sound.{all, some, clear, isSound}
-use Rattle.layout.proofs.Tests.{and-left, and-right}
+use Rattle.ring.specs.Each.{all, some, first}
+use Rattle.ring.proofs.Each.{and-left, and-right}
 use Rattle.layout.specs.Layout.{into, descending}
-use Rattle.prices.specs.Contents.{isSoundTable}
+use Rattle.flaws.specs.Flaws.{meetsEmpty, meetsKey}
 use Rattle.orders.specs.Orders.{lineFault, linesFault, ordersOf}
 use Rattle.rule.specs.Rule.{settled, absorbed, insertStep, findStep, deleteStep, rule}
 use Rattle.rule.specs.Schedules.{sameTable}
@@ -52,7 +52,7 @@ all-say (b ∷ bs) p = (leaves b (and-left (leavesRight b) (allLeave bs) p), all
 
 computed : T (allLeave batches)
 unfolding allLeave leavesRight sameTable callsOf answerOf answersOf call run isWellFormed
-    rule settled absorbed insertStep findStep deleteStep isSoundTable isSound all some clear dist probe prev wrap count
+    rule settled absorbed insertStep findStep deleteStep meetsEmpty meetsKey first all some dist probe prev wrap count
     into descending lineFault linesFault ordersOf
 computed = tt
 

@@ -1,4 +1,4 @@
--- The contents of cells: label and price, and the test for sound tables.
+-- The contents of cells: label and price, and sound tables of them.
 use mathlib.Core.Path.{_≡_, refl, sym, _∙_}
 use mathlib.Core.Logic.{_≢_, _↔_, _⊎_, inl, inr, ⊎-elim}
 use mathlib.Core.List.{List}
@@ -10,10 +10,8 @@ use borrow.Author.Tests.{leb-true, le-leb, eq-eqb, ne-eqb}
 use Rattle.ring.proofs.Split.{by-lt, by-eq}
 use Rattle.ring.proofs.Tests.{true-says, both-say}
 use Rattle.layout.specs.Layout.{In, size}
-use Rattle.layout.specs.Sound.{Holds, isSound}
-use Rattle.layout.proofs.Sound.{isSound-says, isSound-of}
-use Rattle.layout.proofs.Tests.{and-of, and-left, and-right, all-at, all-of}
-use Rattle.prices.specs.Contents.{label, price, content, priceOk, cellOk, SoundTable, isSoundTable}
+use Rattle.layout.specs.Sound.{Holds}
+use Rattle.prices.specs.Contents.{label, price, content, priceOk, cellOk, SoundTable}
 use Rattle.prices.specs.Priced.{labels, PricedSound, pricedLayout}
 use Rattle.prices.specs.Promise.{ContentsPromise}
 use Rattle.prices.proofs.Labels.{label-at}
@@ -63,16 +61,6 @@ gap n home t s =
       is = cell-whole (getD t (g .cell) 0) (s .cells (g .cell) (g .inside)) (sym (label-at label refl t (g .cell)) ∙ g .is);
     }
 
-test : (n : ℕ) (home : ℕ → ℕ) (t : List ℕ) → T (isSoundTable n home t) ↔ SoundTable n home t
-unfolding isSoundTable
-test n home t = (
-  λ h. record {
-    paths = isSound-says n home (labels label t) (and-left (isSound n home (labels label t)) _ h);
-    cells = all-at (λ j. cellOk (getD t j 0)) n (and-right (isSound n home (labels label t)) _ h);
-  },
-  λ s. and-of (isSound n home (labels label t)) _ (isSound-of n home (labels label t) (s .paths)) (all-of (λ j. cellOk (getD t j 0)) n (s .cells)),
-)
-
 -- ---- the layout of contents with right prices
 laid : (n : ℕ) (home : ℕ → ℕ) → ((x : ℕ) → home x < n) → (xs : List ℕ) → size (labels label xs) < n
     → ((x : ℕ) → In x xs → label x ≢ 0 → T (priceOk (price x))) → SoundTable n home (pricedLayout n label home xs)
@@ -98,7 +86,6 @@ contents =
       cells = cells-say;
       gap = gap;
       once = λ n home hb t s. once n label home refl hb t (priced n home t s);
-      test = test;
       priced = priced;
       laid = laid;
     }

@@ -7,7 +7,7 @@ use lib.Dec.{T}
 use lib.ListN.{getD}
 use Rattle.layout.specs.Layout.{In, size}
 use Rattle.layout.specs.Sound.{Holds}
-use Rattle.prices.specs.Contents.{label, price, content, priceOk, cellOk, SoundTable, isSoundTable}
+use Rattle.prices.specs.Contents.{label, price, content, priceOk, cellOk, SoundTable}
 use Rattle.prices.specs.Priced.{labels, Least, SameLeast, PricedSound, pricedLayout, withoutLabels}
 
 pub record PricedLayouts (n : ℕ) (key home : ℕ → ℕ) : Type 0 where
@@ -43,8 +43,7 @@ pub record ContentsPromise : Type 0 where
   pub gap : (n : ℕ) (home : ℕ → ℕ) (t : List ℕ) → SoundTable n home t → Holds n t 0
   pub once : (n : ℕ) (home : ℕ → ℕ) → ((x : ℕ) → home x < n) → (t : List ℕ) → SoundTable n home t
       → (i j : ℕ) → i < n → j < n → label (getD t i 0) ≢ 0 → label (getD t i 0) ≡ label (getD t j 0) → i ≡ j
-  -- the test passes the sound tables and no others, and all that is promised of sound tables is promised of them
-  pub test : (n : ℕ) (home : ℕ → ℕ) (t : List ℕ) → T (isSoundTable n home t) ↔ SoundTable n home t
+  -- all that is promised of sound tables is promised of them
   pub priced : (n : ℕ) (home : ℕ → ℕ) (t : List ℕ) → SoundTable n home t → PricedSound n label home t
   -- the layout of contents with right prices is sound
   pub laid : (n : ℕ) (home : ℕ → ℕ) → ((x : ℕ) → home x < n) → (xs : List ℕ) → size (labels label xs) < n

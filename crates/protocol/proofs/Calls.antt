@@ -1,6 +1,6 @@
 -- The calls' sequences of refusals, each test with what it says.
 use mathlib.Core.Path.{_≡_, refl}
-use mathlib.Core.Logic.{_≢_}
+use mathlib.Core.Logic.{_≢_, ⊎-elim}
 use mathlib.Core.Bool.{true, false, not}
 use mathlib.Core.List.{List, [], _∷_, _++_}
 use Prim.Native.Nat.{ℕ, _≤_, _<_}
@@ -9,7 +9,10 @@ use lib.Dec.{leb, ltb, eqb}
 use lib.ListN.{length, getD}
 use borrow.Author.Tests.{leb-true, leb-false, ltb-true, ltb-false, not-true, not-false}
 use Rattle.ring.proofs.Tests.{not-both, equal-says, within-says, by-test}
-use Rattle.prices.specs.Contents.{isSoundTable, priceOk}
+use Rattle.prices.specs.Contents.{priceOk}
+use Rattle.flaws.specs.Flaws.{isIntact, meetsEmpty, meetsKey}
+use Rattle.flaws.specs.Promise.{Intact, Damaged}
+use Rattle.flaws.proofs.Theorem.{theorem as flaws}
 use Rattle.orders.specs.Orders.{blank, linesFault}
 use Rattle.orders.specs.declared.Order.{Order}
 use Rattle.activities.specs.Activities.{isIdle}
@@ -23,14 +26,13 @@ use Rattle.state.specs.Model.{Model, sizeOk, crewOk}
 use Rattle.state.specs.Open.{crowded}
 use Rattle.state.specs.Refusals.{replyNumber}
 use Rattle.state.specs.declared.Phase.{Phase}
-use Rattle.state.specs.declared.Refusal.the-variants.{Size, Crew, Kind, Unsound, OtherTable, NoWorker, Blank, Busy, Full, Working, Shut, Spoilt, WrongPrice, NoLine, LongList}
+use Rattle.state.specs.declared.Refusal.the-variants.{Size, Crew, Kind, Unsound, OtherTable, NoWorker, Blank, Busy, Full, Working, Shut, Spoilt, WrongPrice, NoLine, LongList, Gap, Disorder}
 use Rattle.protocol.specs.Bars.{doing, allIdle}
 use Rattle.protocol.specs.Calls.{turnNumber, movedAt, turnCheck, turnCall}
 use Rattle.protocol.specs.IsWellFormed.{isWellFormed}
 use Rattle.protocol.specs.Lines.{Priced, Mispriced}
 use Rattle.protocol.proofs.Lines.{apart, blank-first, price-first, worker-first, fills-says}
 use Rattle.protocol.proofs.Pricing.{price-says, wrong-says}
-use Rattle.protocol.proofs.Soundness.{sound-says}
 use Rattle.protocol.proofs.Chain.{Step, barring, wanting, by-reply}
 use Rattle.protocol.proofs.WellFormed.{all-idle-says, some-busy, well-formed-says}
 
@@ -40,7 +42,21 @@ module _ (M : Model) (t : List ℕ) where
   sizeSteps = wanting (sizeOk M (length t)) (within-says (M .fewestCells) (M .mostCells) (length t)) Size ∷ []
 
   abbrev pub soundSteps : List Step
-  soundSteps = wanting (isSoundTable (length t) (M .home (length t)) t) (sound-says M t) Unsound ∷ []
+  soundSteps =
+      let home = M .home (length t) in
+      let kinds = flaws .kinds home t in
+      record {
+        when = not (isIntact t);
+        why = Unsound;
+        passes = Intact t;
+        applies = Damaged t;
+        if-true = λ e. ⊎-elim (λ w. absurd (not-both (isIntact t) (kinds .intact .1 w) (not-true (isIntact t) e))) (λ d. d) (kinds .one-of);
+        if-false = λ e. kinds .intact .0 (not-false (isIntact t) e);
+        apart = kinds .not-damaged;
+      }
+      ∷ barring (meetsEmpty home t) (kinds .gapped) Gap
+      ∷ barring (meetsKey home t) (kinds .disordered) Disorder
+      ∷ []
 
 module _ (M : Model) (k m : ℕ) (t : List ℕ) where
   abbrev limitSteps : List Step

@@ -1,7 +1,7 @@
 -- The promises on refusals.
 use mathlib.Core.Path.{_≡_, refl, sym, _∙_, ap, subst}
 use mathlib.Core.Logic.{_≢_}
-use mathlib.Core.Bool.{Bool, true, false, not, cond}
+use mathlib.Core.Bool.{Bool, true, false, not}
 use mathlib.Core.List.{List, _++_}
 use Prim.Native.Nat.{ℕ, _≤_, _<_}
 use native.Mathlib.Omega.{arith}
@@ -13,6 +13,8 @@ use Rattle.ring.proofs.Tests.{tested}
 use Rattle.layout.specs.Layout.{size}
 use Rattle.prices.specs.Contents.{label, content}
 use Rattle.prices.specs.Priced.{labels}
+use Rattle.flaws.specs.Promise.{Intact}
+use Rattle.flaws.proofs.Theorem.{theorem as flaws}
 use Rattle.orders.specs.Orders.{orderWith, blank, orderKeys, lineAt}
 use Rattle.orders.specs.declared.Order.{Order}
 use Rattle.activities.specs.Activities.{isIdle}
@@ -23,7 +25,7 @@ use Rattle.rule.specs.declared.Answer.{Answer}
 use Rattle.rule.specs.declared.Answer.the-variants.{Price, No}
 use Rattle.rule.specs.declared.Place.the-variants.{At}
 use Rattle.rule.proofs.Suits.{touched-below}
-use Rattle.state.specs.Model.{Model}
+use Rattle.state.specs.Model.{Model, Proper}
 use Rattle.state.specs.Open.{openReply, openCall}
 use Rattle.state.specs.Refusals.{replyNumber}
 use Rattle.state.specs.declared.Phase.{Phase}
@@ -34,7 +36,7 @@ use Rattle.protocol.specs.Bars.{doing, mispriced}
 use Rattle.protocol.specs.IsWellFormed.{isWellFormed}
 use Rattle.protocol.specs.Calls.{turnNumber, asked, missing, entryFor, closeReply, closeCall, orderReply, orderTo, foundReply, orderCall, turnCheck, movedAt, turnCall}
 use Rattle.protocol.specs.Cases.{Decides}
-use Rattle.protocol.specs.Promise.{SoundIn, insertCases, otherCases, lineOrderCases, handedCases, Starts, Answers, turnCases, WellFormedPromise, OpenPromise, OrderPromise, TurnPromise, ClosePromise}
+use Rattle.protocol.specs.Promise.{SoundIn, Soundness, GappedIn, DisorderedIn, insertCases, otherCases, lineOrderCases, handedCases, Starts, Answers, turnCases, WellFormedPromise, OpenPromise, OrderPromise, TurnPromise, ClosePromise}
 use Rattle.protocol.specs.WellFormed.{Size, Crew, Kind, WellFormed}
 use Rattle.protocol.specs.declared.TurnReply.the-variants.{Answered}
 use Rattle.protocol.proofs.Answering.{moved-answers, moved-price, moved-no}
@@ -79,28 +81,44 @@ module _ (M : Model) (k m : ℕ) (t : List ℕ) (os : List Order) where
     pub size : Size M (length t)
     pub crew : Crew M m
     pub kind : Kind k
-    pub sound : SoundIn M t
+    pub sound : Proper M → SoundIn M t
     pub list : k ≡ 1 → ListPassed
+
+  none-of : Intact t → (GappedIn M t → ⊥) → (DisorderedIn M t → ⊥) → Proper M → SoundIn M t
+  none-of w g d proper = sounds .words M t .1 (sounds .kinds M proper t .1 (w, g, d))
 
   insert-passed : k ≡ 1 → open-answer ≡ 0 → OpenPassed
   insert-passed is z =
-      let (_, (_, (_, (_, (_, (_, (_, (_, (_, none))))))))) = insert-decides is in
-      let (((((((((_, a), b), c), _), d), x), y), w), few) = none .0 z in
-      record { size = a; crew = b; kind = c; sound = sounds M t .1 d; list = λ _. record { lines = all-good m os x y w; room = fewer few } }
+      let (_, (_, (_, (_, (_, (_, (_, (_, (_, (_, (_, none))))))))))) = insert-decides is in
+      let (((((((((((_, a), b), c), _), d), e), f), x), y), w), few) = none .0 z in
+      record { size = a; crew = b; kind = c; sound = none-of d e f; list = λ _. record { lines = all-good m os x y w; room = fewer few } }
     where
       fewer : (Fills t os → ⊥) → size (labels label t ++ orderKeys os) < length t
       fewer none = by-lt (size (labels label t ++ orderKeys os)) (length t) (λ l. l) (λ l. absurd (none (fills-says t os .0 (le-leb _ _ l))))
 
   other-passed : k ≢ 1 → open-answer ≡ 0 → OpenPassed
   other-passed ne z =
-      let (_, (_, (_, (_, none)))) = other-decides ne in
-      let ((((_, a), b), c), d) = none .0 z in record { size = a; crew = b; kind = c; sound = sounds M t .1 d; list = λ is. absurd (ne is) }
+      let (_, (_, (_, (_, (_, (_, none)))))) = other-decides ne in
+      let ((((((_, a), b), c), d), e), f) = none .0 z in
+      record { size = a; crew = b; kind = c; sound = none-of d e f; list = λ is. absurd (ne is) }
 
   number-passed : open-answer ≡ 0 → OpenPassed
   number-passed z = by-eq k 1 (λ is. insert-passed is z) (λ ne. other-passed ne z)
 
   pub open-passed : openReply M k m t os ≡ Accepted → OpenPassed
   open-passed e = number-passed (open-number ∙ ap replyNumber e)
+
+  never-unsound : Proper M → Soundness M t → (open-answer ≢ 4) × (open-answer ≢ 17) × (open-answer ≢ 18)
+  never-unsound proper s =
+      let (w, g, d) = sounds .kinds M proper t .0 s in
+      let not-damaged = flaws .kinds (M .home (length t)) t .not-damaged w in
+      by-eq k 1
+      (λ is.
+      let (_, (_, (_, (_, (four, (seventeen, (eighteen, _))))))) = insert-decides is in
+      (λ e. not-damaged (four .0 e .1), λ e. g (seventeen .0 e .1), λ e. d (eighteen .0 e .1)))
+      (λ ne.
+      let (_, (_, (_, (four, (seventeen, (eighteen, _)))))) = other-decides ne in
+      (λ e. not-damaged (four .0 e .1), λ e. g (seventeen .0 e .1), λ e. d (eighteen .0 e .1)))
 
   open-refused {ℓ} : {C : Type ℓ} → open-answer ≢ 0 → ((q : Refusal) → openReply M k m t os ≡ Refused q → C) → C
   open-refused z f = by-reply (openReply M k m t os) (λ e. absurd (z (open-number ∙ ap replyNumber e))) f
@@ -118,6 +136,8 @@ opens M k m t os =
       reply = open-reply M k m t os;
       inserts = insert-decides M k m t os;
       others = other-decides M k m t os;
+      sound = λ proper z. sounds .words M t .0 (number-passed M k m t os z .sound proper);
+      never-unsound = never-unsound M k m t os;
       refused = λ z. open-refused M k m t os z (λ _ e. rw e (fresh-resting M 3 2 1 true));
       accepted = λ z. rw (open-accepted M k m t os z) (fresh-resting M k (length t) m false);
       lines = λ is z. number-passed M k m t os z .list is .lines;

@@ -7,9 +7,10 @@ use mathlib.Core.List.{List, [], _∷_, _++_}
 use Prim.Native.Nat.{ℕ, _≤_, _<_}
 use lib.ListN.{length, getD}
 use Rattle.ring.specs.Ring.{next}
-use Rattle.layout.specs.Sound.{Holds, Ordered}
+use Rattle.layout.specs.Sound.{Ordered}
 use Rattle.prices.specs.Contents.{label, price, content, SoundTable}
 use Rattle.prices.specs.Priced.{labels}
+use Rattle.flaws.specs.Promise.{Intact, Damaged, Gapped, Disordered}
 use Rattle.orders.specs.Orders.{blank}
 use Rattle.orders.specs.declared.Order.{Order}
 use Rattle.activities.specs.Activities.{entryOf}
@@ -69,22 +70,29 @@ GatewayNeverSpoilt = (p : Phase) → Made gateway p → WellFormed gateway p
 abbrev pub SoundIn : Model → List ℕ → Type 0
 SoundIn M t = SoundTable (length t) (M .home (length t)) t
 
--- the same in the documents' words: at least one cell is empty, every key's path holds only greater keys, and a cell other than 0 has a key and a price
--- from 1 to 9,999,999
+-- the same in the documents' words: at least one cell is empty, a cell other than 0 has a key and a price from 1 to 9,999,999, and every key's path
+-- holds only greater keys
 pub record Soundness (M : Model) (t : List ℕ) : Type 0 where
-  pub gap : Holds (length t) t 0
+  pub intact : Intact t
   pub ordered : Ordered (length t) (M .home (length t)) (labels label t)
-  pub cells : (j : ℕ) → j < length t → getD t j 0 ≢ 0 → (label (getD t j 0) ≢ 0) × (1 ≤ price (getD t j 0)) × (price (getD t j 0) ≤ 9999999)
 
-abbrev pub SoundnessPromise : Type 0
-SoundnessPromise = (M : Model) (t : List ℕ) → SoundIn M t ↔ Soundness M t
+-- the lowest-numbered cell whose key breaks the order meets an empty cell first, or a key
+abbrev pub GappedIn : Model → List ℕ → Type 0
+GappedIn M t = Gapped (M .home (length t)) t
+
+abbrev pub DisorderedIn : Model → List ℕ → Type 0
+DisorderedIn M t = Disordered (M .home (length t)) t
+
+pub record SoundnessPromise : Type 0 where
+  pub words : (M : Model) (t : List ℕ) → SoundIn M t ↔ Soundness M t
+  pub kinds : (M : Model) → Proper M → (t : List ℕ) → Soundness M t ↔ (Intact t × (GappedIn M t → ⊥) × (DisorderedIn M t → ⊥))
 
 -- of a table: its length, and soundness
 abbrev pub sizeCases : Model → List ℕ → List Case
 sizeCases M t = wants 1 (Size M (length t)) ∷ []
 
 abbrev pub soundCases : Model → List ℕ → List Case
-soundCases M t = wants 4 (Soundness M t) ∷ []
+soundCases M t = case 4 (Intact t) (Damaged t) ∷ forbids 17 (GappedIn M t) ∷ forbids 18 (DisorderedIn M t) ∷ []
 
 -- of the numbers handed in: 1, 2, 3
 abbrev pub limitCases : Model → ℕ → ℕ → List ℕ → List Case
@@ -97,11 +105,11 @@ longCases M os = case 16 (length os ≤ M .mostLines) (M .mostLines < length os)
 abbrev pub fullCases : List ℕ → List Order → List Case
 fullCases t os = forbids 9 (Fills t os) ∷ []
 
--- an insert phase (put-in shift): then 16, 4, the lines' 7, 14 and 6, and 9
+-- an insert phase (put-in shift): then 16, the table's 4, 17 and 18, the lines' 7, 14 and 6, and 9
 abbrev pub insertCases : Model → ℕ → ℕ → List ℕ → List Order → List Case
 insertCases M k m t os = limitCases M k m t ++ longCases M os ++ soundCases M t ++ lineCases m os ++ fullCases t os
 
--- any other: then 4
+-- any other: then the table's 4, 17 and 18
 abbrev pub otherCases : Model → ℕ → ℕ → List ℕ → List Case
 otherCases M k m t = limitCases M k m t ++ soundCases M t
 
@@ -118,6 +126,10 @@ pub record Openings (M : Model) (k m : ℕ) (t : List ℕ) (os : List Order) : T
   pub reply : openCall M k m t os .reply ≡ openReply M k m t os
   pub inserts : k ≡ 1 → Decides (replyNumber (openCall M k m t os .reply)) (insertCases M k m t os)
   pub others : k ≢ 1 → Decides (replyNumber (openCall M k m t os .reply)) (otherCases M k m t)
+  -- an accepted opening had a sound table, and none on a sound table is refused with 4, 17 or 18
+  pub sound : Proper M → replyNumber (openCall M k m t os .reply) ≡ 0 → Soundness M t
+  pub never-unsound : Proper M → Soundness M t
+      → (replyNumber (openCall M k m t os .reply) ≢ 4) × (replyNumber (openCall M k m t os .reply) ≢ 17) × (replyNumber (openCall M k m t os .reply) ≢ 18)
   -- a refused opening hands back a shut record of kind 3, length 2 and one worker, all idle
   pub refused : replyNumber (openCall M k m t os .reply) ≢ 0 → Resting M 3 2 1 true (openCall M k m t os .phase)
   -- an accepted one an open record as it was asked for

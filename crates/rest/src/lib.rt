@@ -8,18 +8,11 @@ ghost use denote.Ref.{ptr};
 ghost use Rattle.state.specs.Model.{gateway};
 ghost use Rattle.tables.specs.Calls.{checkCall, countCall, listCall, listAfter, listFront};
 
-// Whether the table is sound.
+// Whether the table is sound or, if it is not, why.
 pub fn check(cells: &[u64]) -> Reply
     ensures { λ r. ⌜ r ≡ checkCall gateway (now (cells .entry)) ⌝ }
 {
-    if !Phase::size_ok(cells.len()) {
-        return Reply::Refused(Refusal::Size);
-    }
-    if soundness::is_sound(cells) {
-        Reply::Accepted
-    } else {
-        Reply::Refused(Refusal::Unsound)
-    }
+    Phase::check(cells)
 }
 
 // How many keys the table has.

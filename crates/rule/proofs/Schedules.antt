@@ -7,7 +7,7 @@ use lib.Dec.{T, ltb, eqb, eqb→eq}
 use lib.ListN.{getD}
 use Rattle.ring.specs.Counting.{bit}
 use Rattle.ring.specs.Ring.{wrap, dist, prev}
-use Rattle.layout.proofs.Tests.{and-left, and-right}
+use Rattle.ring.proofs.Each.{and-left, and-right}
 use Rattle.activities.specs.Activities.{busy}
 use Rattle.activities.specs.declared.Activity.{Activity}
 use Rattle.activities.specs.declared.Activity.the-variants.{Idle}

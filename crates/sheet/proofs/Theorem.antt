@@ -8,13 +8,13 @@ use native.Mathlib.Omega.{arith}
 use borrow.Author.Tests.{ne-eqb}
 use lib.ListN.{length}
 use Rattle.ring.proofs.Split.{by-eq}
-use Rattle.prices.specs.Contents.{isSoundTable}
+use Rattle.flaws.specs.Flaws.{isIntact, meetsEmpty, meetsKey}
 use Rattle.orders.specs.declared.Order.{Order}
 use Rattle.activities.specs.Kinds.{kindOk}
 use Rattle.state.specs.Model.{gateway, sizeOk, crewOk}
 use Rattle.state.specs.Open.{openCall}
-use Rattle.state.specs.Refusals.{replyNumber, unless, firstOf}
-use Rattle.state.specs.declared.Refusal.the-variants.{Size, Crew, Kind, Unsound, LongList}
+use Rattle.state.specs.Refusals.{replyNumber, if, unless, firstOf}
+use Rattle.state.specs.declared.Refusal.the-variants.{Size, Crew, Kind, Unsound, LongList, Gap, Disorder}
 use Rattle.state.specs.declared.Reply.the-variants.{Refused}
 use Rattle.state.proofs.Model.{gateway-proper}
 use Rattle.lines.specs.Grammar.{readingOf}
@@ -38,20 +38,23 @@ crew-within s v up =
     rw (crew gateway gateway-proper (h .kind) (h .crew) (h .opened) (s .items) (s .phase) (s .table) (h .by)) within
 
 -- ---- 16 is for lists of more than 65,536 orders
-other-refusal : (a b c d : Bool) → firstOf (unless a Size ∷ unless b Crew ∷ unless c Kind ∷ unless d Unsound ∷ []) ≢ Refused LongList
-other-refusal false b c d e = omega (arith, ap replyNumber e)
-other-refusal true false c d e = omega (arith, ap replyNumber e)
-other-refusal true true false d e = omega (arith, ap replyNumber e)
-other-refusal true true true false e = omega (arith, ap replyNumber e)
-other-refusal true true true true e = omega (arith, ap replyNumber e)
+other-refusal : (a b c d e f : Bool)
+    → firstOf (unless a Size ∷ unless b Crew ∷ unless c Kind ∷ unless d Unsound ∷ if e Gap ∷ if f Disorder ∷ []) ≢ Refused LongList
+other-refusal false b c d e f h = omega (arith, ap replyNumber h)
+other-refusal true false c d e f h = omega (arith, ap replyNumber h)
+other-refusal true true false d e f h = omega (arith, ap replyNumber h)
+other-refusal true true true false e f h = omega (arith, ap replyNumber h)
+other-refusal true true true true true f h = omega (arith, ap replyNumber h)
+other-refusal true true true true false true h = omega (arith, ap replyNumber h)
+other-refusal true true true true false false h = omega (arith, ap replyNumber h)
 
 is-long : (k m : ℕ) (t : List ℕ) (os : List Order) → openCall gateway k m t os .reply ≡ Refused LongList → 65536 < length os
 is-long k m t os e =
     let o = opens gateway k m t os in
     by-eq k 1
     (λ is. let (_, (_, (_, (sixteen, _)))) = o .inserts is in sixteen .0 (ap replyNumber e) .1)
-    (λ ne. absurd (other-refusal (sizeOk gateway (length t)) (crewOk gateway m) (kindOk k) (isSoundTable (length t) (gateway .home (length t)) t)
-    (rw (ne-eqb k 1 ne) at (sym (o .reply) ∙ e))))
+    (λ ne. absurd (other-refusal (sizeOk gateway (length t)) (crewOk gateway m) (kindOk k) (isIntact t) (meetsEmpty (gateway .home (length t)) t)
+    (meetsKey (gateway .home (length t)) t) (rw (ne-eqb k 1 ne) at (sym (o .reply) ∙ e))))
 
 pub sheet-promise : SheetPromise
 unfolding isWellFormed

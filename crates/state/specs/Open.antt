@@ -5,8 +5,9 @@ use Prim.Native.Nat.{ℕ}
 use lib.Dec.{leb, ltb, eqb}
 use lib.ListN.{length, replicate}
 use Rattle.layout.specs.Layout.{size}
-use Rattle.prices.specs.Contents.{label, isSoundTable}
+use Rattle.prices.specs.Contents.{label}
 use Rattle.prices.specs.Priced.{labels}
+use Rattle.flaws.specs.Flaws.{isIntact, meetsEmpty, meetsKey}
 use Rattle.orders.specs.Orders.{orderKeys, linesFault}
 use Rattle.orders.specs.declared.Order.{Order}
 use Rattle.activities.specs.Activities.{idle}
@@ -14,7 +15,7 @@ use Rattle.activities.specs.Kinds.{kindOk}
 use Rattle.state.specs.Model.{Model, sizeOk, crewOk}
 use Rattle.state.specs.Refusals.{Bar, if, unless, firstOf}
 use Rattle.state.specs.declared.Phase.{Phase}
-use Rattle.state.specs.declared.Refusal.the-variants.{Size, Crew, Kind, Unsound, NoWorker, Blank, Full, WrongPrice, LongList}
+use Rattle.state.specs.declared.Refusal.the-variants.{Size, Crew, Kind, Unsound, NoWorker, Blank, Full, WrongPrice, LongList, Gap, Disorder}
 use Rattle.state.specs.declared.Replied.{Replied}
 use Rattle.state.specs.declared.Reply.{Reply}
 use Rattle.state.specs.declared.Reply.the-variants.{Accepted, Refused}
@@ -41,15 +42,17 @@ module _ (M : Model) where
   abbrev pub refusedPhase : Phase
   refusedPhase = fresh 3 2 1 true
 
-  -- ---- refusals of a table: its length (1), and that it is not sound (4)
+  -- ---- refusals of a table: its length (1); that it is not sound, by its cells (4), else by the lowest-numbered cell whose key breaks the order: that key
+  -- meets an empty cell first (17), or a key (18)
   abbrev pub sizeBars : List ℕ → List Bar
   sizeBars t = unless (sizeOk M (length t)) Size ∷ []
 
   abbrev pub soundBars : List ℕ → List Bar
-  soundBars t = unless (isSoundTable (length t) (M .home (length t)) t) Unsound ∷ []
+  soundBars t = unless (isIntact t) Unsound ∷ if (meetsEmpty (M .home (length t)) t) Gap ∷ if (meetsKey (M .home (length t)) t) Disorder ∷ []
 
   module _ (k m : ℕ) (t : List ℕ) where
-    -- ---- 1, 2, 3, in that order; then of an insert phase (put-in shift), which alone reads the list: 16, 4, the lines' 7, 14 and 6, 9; of the others 4
+    -- ---- 1, 2, 3, in that order; then of an insert phase (put-in shift), which alone reads the list: 16, the table's 4, 17 and 18, the lines' 7, 14
+    -- and 6, 9; of the others the table's
     abbrev pub limitBars : List Bar
     limitBars = sizeBars t ++ unless (crewOk M m) Crew ∷ unless (kindOk k) Kind ∷ []
 

@@ -1,17 +1,22 @@
 -- The opening in two stages, for the functions that make it up: what is refused before a line of the list is read, and what behind the lines.
-use mathlib.Core.Bool.{Bool, false, cond}
+use mathlib.Core.Bool.{Bool, true, false, cond}
 use mathlib.Core.List.{List, [], _∷_, _++_}
 use Prim.Native.Nat.{ℕ}
 use lib.Dec.{ltb, eqb}
 use lib.ListN.{length}
-use Rattle.prices.specs.Contents.{isSoundTable}
 use Rattle.state.specs.Model.{Model, sizeOk, crewOk}
 use Rattle.state.specs.Open.{faultBars, limitBars, soundBars}
-use Rattle.state.specs.Refusals.{Bar, if}
+use Rattle.state.specs.Refusals.{Bar, if, firstOf}
 use Rattle.state.specs.declared.Refusal.the-variants.{Full, LongList}
+use Rattle.state.specs.declared.Reply.{Reply}
+use Rattle.state.specs.declared.Reply.the-variants.{Accepted, Refused}
+
+abbrev pub isAccepted : Reply → Bool
+isAccepted Accepted = true
+isAccepted (Refused r) = false
 
 module _ (M : Model) (k m : ℕ) (t : List ℕ) (lines : ℕ) where
-  -- of a phase with a list of so many lines: 1, 2, 3, of an insert phase 16, then 4
+  -- of a phase with a list of so many lines: 1, 2, 3, of an insert phase 16, then the table's 4, 17 and 18
   abbrev pub earlyBars : List Bar
   earlyBars = limitBars M k m t ++ if (cond (eqb k 1) (ltb (M .mostLines) lines) false) LongList ∷ soundBars M t
 
@@ -19,7 +24,7 @@ module _ (M : Model) (k m : ℕ) (t : List ℕ) (lines : ℕ) where
   abbrev pub readsList : Bool
   readsList =
       cond (eqb k 1)
-      (cond (sizeOk M (length t)) (cond (crewOk M m) (cond (ltb (M .mostLines) lines) false (isSoundTable (length t) (M .home (length t)) t)) false) false)
+      (cond (sizeOk M (length t)) (cond (crewOk M m) (cond (ltb (M .mostLines) lines) false (isAccepted (firstOf (soundBars M t)))) false) false)
       false
 
 -- then the lines' 7, 14 and 6 by their number, and 9

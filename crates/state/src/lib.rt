@@ -7,20 +7,23 @@ use lent::lines_fault;
 use orders::Order;
 use parallel::fault_of;
 use parallel::lines_of;
-use soundness::is_sound;
+use soundness::Flaw;
+use soundness::flaw_of;
 ghost use Prim.Native.Nat.{_≤_};
 ghost use mathlib.Core.Bool.{false, cond};
 ghost use mathlib.Core.Path.{_≡_};
+ghost use mathlib.Core.List.{_++_};
 ghost use lib.Dec.{ltb, eqb};
 ghost use lib.ListN.{length};
 ghost use Rattle.orders.specs.Orders.{ordersOf};
 ghost use Rattle.activities.specs.Kinds.{kindOk};
 ghost use Rattle.state.specs.Model.{gateway, sizeOk, crewOk};
-ghost use Rattle.state.specs.Open.{fresh, refusedPhase, opened, openCall};
+ghost use Rattle.state.specs.Open.{fresh, refusedPhase, sizeBars, soundBars, opened, openCall};
 ghost use Rattle.state.specs.Refusals.{numberOf, firstOf};
 ghost use Rattle.state.specs.Stages.{readsList, earlyBars, lateBars};
 
 // Why a call is refused: the words of document 01's table, in its order, then the numbers of document 02.
+// `Unsound` is a table without an empty cell or with a cell that is wrong by itself, `Gap` and `Disorder` one whose labels break the way rule.
 pub enum Refusal {
     Size,
     Crew,
@@ -38,6 +41,8 @@ pub enum Refusal {
     WrongPrice,
     NoLine,
     LongList,
+    Gap,
+    Disorder,
 }
 
 impl Refusal {
@@ -62,6 +67,8 @@ impl Refusal {
             Refusal::WrongPrice => 14,
             Refusal::NoLine => 15,
             Refusal::LongList => 16,
+            Refusal::Gap => 17,
+            Refusal::Disorder => 18,
         }
     }
 }
@@ -167,6 +174,30 @@ impl Phase {
         }
     }
 
+    // Whether the table is sound or, if it is not, why.
+    fn soundness(cells: &[u64]) -> Reply
+        requires { ⌜ length (now cells) ≤ 8192 ⌝ }
+        ensures { λ r. ⌜ r ≡ firstOf (soundBars gateway (now (cells .entry))) ⌝ }
+    {
+        let found = flaw_of(cells);
+        match found {
+            Flaw::None => Reply::Accepted,
+            Flaw::Cells => Reply::Refused(Refusal::Unsound),
+            Flaw::Gap => Reply::Refused(Refusal::Gap),
+            Flaw::Disorder => Reply::Refused(Refusal::Disorder),
+        }
+    }
+
+    // Whether a table may have its length, and is sound or, if it is not, why.
+    pub fn check(cells: &[u64]) -> Reply
+        ensures { λ r. ⌜ r ≡ firstOf (sizeBars gateway (now (cells .entry)) ++ soundBars gateway (now (cells .entry))) ⌝ }
+    {
+        if !Self::size_ok(cells.len()) {
+            return Reply::Refused(Refusal::Size);
+        }
+        Self::soundness(cells)
+    }
+
     // Whether the opening goes on to the list: of an insert phase, that nothing is refused before.
     fn reads_list(kind: u64, crew: u64, cells: &[u64], lines: usize) -> bool
         ensures { λ r. ⌜ r ≡ readsList gateway kind crew (now (cells .entry)) lines ⌝ }
@@ -183,7 +214,11 @@ impl Phase {
         if Self::MOST_LINES < lines {
             return false;
         }
-        is_sound(cells)
+        let sound = Self::soundness(cells);
+        match sound {
+            Reply::Accepted => true,
+            Reply::Refused(_) => false,
+        }
     }
 
     // The opening where it does not go on to the list.
@@ -202,12 +237,13 @@ impl Phase {
         if Self::is_too_long(kind, lines) {
             return Self::refused(Refusal::LongList);
         }
-        if !is_sound(cells) {
-            return Self::refused(Refusal::Unsound);
-        }
-        Replied {
-            phase: Self::fresh(kind as u32, cells.len() as u32, crew as u32, false),
-            reply: Reply::Accepted,
+        let sound = Self::soundness(cells);
+        match sound {
+            Reply::Refused(why) => Self::refused(why),
+            Reply::Accepted => Replied {
+                phase: Self::fresh(kind as u32, cells.len() as u32, crew as u32, false),
+                reply: Reply::Accepted,
+            },
         }
     }
 

@@ -1,6 +1,6 @@
 -- The calls' answers, by the tests that lead to them.
 use mathlib.Core.Path.{_≡_, sym, ap, _∙_}
-use mathlib.Core.Bool.{true, false, cond}
+use mathlib.Core.Bool.{cond}
 use mathlib.Core.List.{List, [], _∷_}
 use Prim.Native.Nat.{ℕ, _≤_, _<_}
 use native.Mathlib.Omega.{arith}
@@ -8,13 +8,12 @@ use lib.Dec.{ltb}
 use lib.ListN.{length, take, drop}
 use lib.Seq.{take-at}
 use borrow.Author.Tests.{lt-ltb, le-ltb, le-leb, lt-leb}
-use Rattle.prices.specs.Contents.{isSoundTable}
 use Rattle.words.specs.Words.{occupied, entriesOf, filled, countOf, listedIn}
 use Rattle.words.proofs.Theorem.{theorem}
-use Rattle.state.specs.Model.{Model, sizeOk}
+use Rattle.state.specs.Model.{Model}
 use Rattle.state.specs.Refusals.{Bar, if, firstOf}
 use Rattle.state.proofs.Sequence.{orElse, first-append}
-use Rattle.state.specs.declared.Refusal.the-variants.{Size, Unsound, ShortList}
+use Rattle.state.specs.declared.Refusal.the-variants.{ShortList}
 use Rattle.state.specs.declared.Reply.{Reply}
 use Rattle.state.specs.declared.Reply.the-variants.{Accepted, Refused}
 use Rattle.tables.specs.declared.Counted.{Counted}
@@ -27,15 +26,6 @@ is-count Accepted x c e = cc
 is-count (Refused r) x c e = let z : _≡_ {A = ℕ} 0 1 = cc in omega arith
 
 module _ (M : Model) (t : List ℕ) where
-  pub size-refused : sizeOk M (length t) ≡ false → checkCall M t ≡ Refused Size
-  size-refused e = rw e
-
-  pub unsound-refused : sizeOk M (length t) ≡ true → isSoundTable (length t) (M .home (length t)) t ≡ false → checkCall M t ≡ Refused Unsound
-  unsound-refused e s = rw (e, s)
-
-  pub sound-accepted : sizeOk M (length t) ≡ true → isSoundTable (length t) (M .home (length t)) t ≡ true → checkCall M t ≡ Accepted
-  sound-accepted e s = rw (e, s)
-
   pub count-by : (r : Reply) → checkCall M t ≡ r → countCall M t ≡ countedBy (countOf t) r
   count-by r e = ap (countedBy (countOf t)) e
 

@@ -1,6 +1,6 @@
 -- What check, count and list promise.
 use mathlib.Core.Path.{_≡_, refl, sym, ap, _∙_}
-use mathlib.Core.Logic.{_≢_}
+use mathlib.Core.Logic.{_≢_, _↔_}
 use mathlib.Core.List.{List, [], _∷_, _++_}
 use Prim.Native.Nat.{ℕ, _≤_, _<_}
 use native.Mathlib.Omega.{arith}
@@ -8,10 +8,10 @@ use lib.Dec.{ltb}
 use lib.ListN.{length, getD}
 use borrow.Author.Tests.{ltb-true, ltb-false, le-ltb}
 use Rattle.ring.proofs.Split.{by-eq}
-use Rattle.ring.proofs.Tests.{within-says}
 use Rattle.layout.specs.Layout.{size}
 use Rattle.prices.specs.Contents.{label}
 use Rattle.prices.specs.Priced.{labels}
+use Rattle.flaws.specs.Promise.{Intact}
 use Rattle.words.specs.Words.{entriesOf, filled, countOf}
 use Rattle.words.specs.Promise.{InCellOrder, keysBefore}
 use Rattle.words.proofs.Order.{filled-in-order, filled-behind, length-filled}
@@ -22,13 +22,16 @@ use Rattle.state.specs.declared.Refusal.the-variants.{ShortList}
 use Rattle.state.specs.declared.Reply.{Reply}
 use Rattle.state.specs.declared.Reply.the-variants.{Accepted, Refused}
 use Rattle.protocol.specs.Cases.{Decides}
+use Rattle.protocol.specs.Promise.{GappedIn, DisorderedIn}
+use Rattle.protocol.specs.WellFormed.{Size}
 use Rattle.protocol.proofs.Calls.{sizeSteps, soundSteps}
-use Rattle.protocol.proofs.Chain.{Step, casesOf, decides}
-use Rattle.protocol.proofs.Soundness.{sounds, sound-says}
+use Rattle.protocol.proofs.Chain.{Step, casesOf, decides, none-accepted}
+use Rattle.protocol.proofs.Soundness.{sounds}
 use Rattle.tables.specs.declared.Counted.{Counted}
 use Rattle.tables.specs.declared.Counted.the-variants as counted
 use Rattle.tables.specs.Calls.{countNumber, countValue, countedBy, ifCounted, checkCall, countCall, listBars, listCall, listAfter, listFront}
-use Rattle.tables.specs.Promise.{Usable, listCases, AtRest, AtRestPromise}
+use Rattle.tables.specs.Promise.{Usable, checkCases, listCases, AtRest, AtRestPromise}
+use Rattle.tables.proofs.Answers.{list-by}
 
 -- ---- by the form of an answer
 count-number : (x : ℕ) (r : Reply) → countNumber (countedBy x r) ≡ replyNumber r
@@ -42,12 +45,28 @@ kept (counted.Refused r) x y h = refl
 module _ (M : Model) (proper : Proper M) (t : List ℕ) where
   -- a table that the check accepts has as many ones as keys
   counts : Usable M t → countOf t ≡ size (labels label t)
-  counts (sized, sound) = listing t .number (length t) (M .home (length t)) (λ x. proper .homes (length t) x (omega (arith, proper .some))) (sounds M t .1 sound .paths)
+  counts (sized, sound) =
+      listing t .number (length t) (M .home (length t)) (λ x. proper .homes (length t) x (omega (arith, proper .some))) (sounds .words M t .1 sound .paths)
+
+  check-decides : Decides (replyNumber (checkCall M t)) (checkCases M t)
+  check-decides = decides (sizeSteps M t ++ soundSteps M t) refl (replyNumber (checkCall M t)) refl
+
+  -- behind its size, a table of none of the kinds of unsound is one that it accepts
+  usable : Size M (length t) → Intact t → (GappedIn M t → ⊥) → (DisorderedIn M t → ⊥) → Usable M t
+  usable sized w g d = (sized, sounds .kinds M proper t .1 (w, g, d))
+
+  passes : replyNumber (checkCall M t) ≡ 0 ↔ Usable M t
+  passes =
+      let (_, (_, (_, (_, (to, from))))) = check-decides in (
+        λ z. let ((((_, sized), w), g), d) = to z in usable sized w g d,
+        λ (sized, sound). let (w, g, d) = sounds .kinds M proper t .0 sound in from ((((tt, sized), w), g), d),
+      )
+
+  accepted : Usable M t → checkCall M t ≡ Accepted
+  accepted u = none-accepted (checkCall M t) (passes .1 u)
 
   count-true : Usable M t → countValue (countCall M t) ≡ size (labels label t)
-  count-true (sized, sound) =
-      let e : checkCall M t ≡ Accepted = rw (within-says _ _ _ .1 sized, sound-says M t .1 sound) in
-      ap (λ (r : Reply). countValue (countedBy (countOf t) r)) e ∙ counts (sized, sound)
+  count-true u = ap (λ (r : Reply). countValue (countedBy (countOf t) r)) (accepted u) ∙ counts u
 
   module _ (out : List ℕ) where
     abbrev listSteps : List Step
@@ -73,36 +92,48 @@ module _ (M : Model) (proper : Proper M) (t : List ℕ) where
 
     list : Decides number (listCases M t out)
     list =
-        let (one, (four, (twelve, none))) = by-tests in (
+        let (one, (four, (seventeen, (eighteen, (twelve, none))))) = by-tests in (
           one,
           (
             four,
             (
+              seventeen,
               (
-                λ e. let (b, l) = twelve .0 e in (b, omega (arith, counts (b .0 .1, b .1))),
-                λ (b, l). twelve .1 (b, omega (arith, counts (b .0 .1, b .1))),
-              ),
-              (
-                λ e. let (b, l) = none .0 e in (b, omega (arith, counts (b .0 .1, b .1))),
-                λ (b, l). none .1 (b, omega (arith, counts (b .0 .1, b .1))),
+                eighteen,
+                (
+                  (
+                    λ e. let (b, l) = twelve .0 e in (b, omega (arith, counts (behind-check b))),
+                    λ (b, l). twelve .1 (b, omega (arith, counts (behind-check b))),
+                  ),
+                  (
+                    λ e. let (b, l) = none .0 e in (b, omega (arith, counts (behind-check b))),
+                    λ (b, l). none .1 (b, omega (arith, counts (behind-check b))),
+                  ),
+                ),
               ),
             ),
           ),
         )
+      where
+        behind-check : ((((Unit {0} × Size M (length t)) × Intact t) × (GappedIn M t → ⊥)) × (DisorderedIn M t → ⊥)) → Usable M t
+        behind-check ((((_, sized), w), g), d) = usable sized w g d
 
     -- a list call that is not refused
     module _ (z : number ≡ 0) where
+      passed : Usable M t × (countOf t ≤ length out)
+      passed =
+          let (_, (_, (_, (_, (_, none))))) = by-tests in
+          let (((((_, sized), w), g), d), l) = none .0 z in
+          (usable sized w g d, l)
+
       full : listCall M t out ≡ counted.Keys (countOf t)
-      full =
-          let (_, (_, (_, none))) = by-tests in
-          let (((_, sized), sound), l) = none .0 z in
-          rw (within-says _ _ _ .1 sized, sound-says M t .1 sound, le-ltb (length out) (countOf t) l)
+      full = list-by M t out Accepted (accepted (passed .0)) ∙ rw (le-ltb (length out) (countOf t) (passed .1))
 
       is-size : countOf t ≡ size (labels label t)
-      is-size = let (_, (_, (_, none))) = by-tests in let (b, _) = none .0 z in counts (b .0 .1, b .1)
+      is-size = counts (passed .0)
 
       room : countOf t ≤ length out
-      room = let (_, (_, (_, none))) = by-tests in none .0 z .1
+      room = passed .1
 
       after-filled : listAfter M t out ≡ filled t out
       after-filled = ap (λ (a : Counted). ifCounted a (filled t out) out) full
@@ -131,7 +162,8 @@ module _ (M : Model) (proper : Proper M) (t : List ℕ) where
     at-rest : AtRest M t out
     at-rest =
         record {
-          check = decides (sizeSteps M t ++ soundSteps M t) refl (replyNumber (checkCall M t)) refl;
+          check = check-decides;
+          passes = passes;
           count-refused = count-number (countOf t) (checkCall M t);
           count-true = count-true;
           list = list;

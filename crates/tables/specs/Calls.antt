@@ -34,7 +34,7 @@ ifCounted (counted.Keys c) kept refused = kept
 ifCounted (counted.Refused r) kept refused = refused
 
 module _ (M : Model) (t : List ℕ) where
-  -- check: refusals 1 and 4, in that order
+  -- check: refusals 1, then 4, 17 and 18, in that order
   abbrev pub tableBars : List Bar
   tableBars = sizeBars M t ++ soundBars M t
 

@@ -1,6 +1,6 @@
 -- What is promised of check, count and list, for every table, list and model. Proved in proofs/Theorem.
 use mathlib.Core.Path.{_≡_}
-use mathlib.Core.Logic.{_≢_}
+use mathlib.Core.Logic.{_≢_, _↔_}
 use mathlib.Core.List.{List, [], _∷_, _++_}
 use Prim.Native.Nat.{ℕ, _≤_, _<_}
 use lib.ListN.{length, getD}
@@ -29,8 +29,9 @@ module _ (M : Model) (t : List ℕ) where
     listCases = checkCases ++ case 12 (size (labels label t) ≤ length out) (length out < size (labels label t)) ∷ []
 
     pub record AtRest : Type 0 where
-      -- the check passes the sound tables and no others
       pub check : Decides (replyNumber (checkCall M t)) checkCases
+      -- the check passes the sound tables and no others
+      pub passes : replyNumber (checkCall M t) ≡ 0 ↔ Usable
       -- count is refused as the check is, and otherwise says how many keys the table has
       pub count-refused : countNumber (countCall M t) ≡ replyNumber (checkCall M t)
       pub count-true : Usable → countValue (countCall M t) ≡ size (labels label t)

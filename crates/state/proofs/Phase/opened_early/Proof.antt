@@ -6,8 +6,8 @@ use borrow.Author.Tests.{not-true, not-false}
 use Rattle.ring.proofs.Tests.{within-says}
 use Rattle.state.specs.Model.{gateway}
 use Rattle.state.specs.Stages.{earlyBars}
-use Rattle.state.specs.declared.Refusal.the-variants.{Size, Crew, Kind, Unsound, LongList}
-use Rattle.state.proofs.Opening.{open-refused, open-accepted}
+use Rattle.state.specs.declared.Refusal.the-variants.{Size, Crew, Kind, LongList}
+use Rattle.state.proofs.Opening.{open-refused, open-accepted, early-by}
 use Rattle.state.proofs.Phase.opened_early.Statement.{statement}
 use Rattle.state.proofs.Phase.opened_early.Tie as tie
 
@@ -71,47 +71,48 @@ returns-4 c =
       sym (c .before .before .is-too-long .ensures) ∙ c .before .if4 .taken,
     ))
 
-is-sound-requires : tie.Need-is-sound-requires
-is-sound-requires c κs =
+soundness-requires : tie.Need-soundness-requires
+soundness-requires c κs =
     let a = c .before .before .before .before .before .before .before .before .before .args in
-    let h = within-says _ _ (length (a .cells .now)) .0
-    (sym (c .before .before .before .before .before .before .before .size-ok .ensures) ∙ not-false _ (c .before .before .before .before .before .before .if1 .left)) in
-    omega arith
+    within-says _ _ (length (a .cells .now)) .0
+    (sym (c .before .before .before .before .before .before .before .size-ok .ensures) ∙ not-false _ (c .before .before .before .before .before .before .if1 .left)) .1
+
+enum-known-sound : tie.Need-enum-known-sound
+enum-known-sound c = search needs
 
 refused-requires-5 : tie.Need-refused-requires-5
 refused-requires-5 c κs = search needs
 
+enum-told : tie.Need-enum-told
+enum-told c = search needs
+
 returns-5 : tie.Need-returns-5
 returns-5 c =
-    let a = c .before .before .before .before .before .before .before .before .before .before .before .before .args in
-    open-refused gateway (a .kind) (a .crew) (a .cells .now) (earlyBars gateway (a .kind) (a .crew) (a .cells .now) (a .lines)) _ Unsound (c .refused5 .ensures)
-    (simp (
-      sym (c .before .before .before .before .before .before .before .before .before .before .size-ok .ensures) ∙ not-false _ (c .before .before .before .before .before .before .before .before .before .if1 .left),
-      sym (c .before .before .before .before .before .before .before .before .crew-ok .ensures) ∙ not-false _ (c .before .before .before .before .before .before .before .if2 .left),
-      sym (c .before .before .before .before .before .before .kind-ok .ensures) ∙ not-false _ (c .before .before .before .before .before .if3 .left),
-      sym (c .before .before .before .before .is-too-long .ensures) ∙ c .before .before .before .if4 .left,
-      sym (c .before .before .is-sound .ensures) ∙ not-true _ (c .before .if5 .taken),
-    ))
+    let a = c .before .before .before .before .before .before .before .before .before .before .before .before .before .before .args in
+    open-refused gateway (a .kind) (a .crew) (a .cells .now) (earlyBars gateway (a .kind) (a .crew) (a .cells .now) (a .lines)) _ _ (c .refused5 .ensures)
+    (early-by (a .kind) (a .crew) (a .cells .now) (a .lines)
+    (sym (c .before .before .before .before .before .before .before .before .before .before .before .before .size-ok .ensures) ∙ not-false _ (c .before .before .before .before .before .before .before .before .before .before .before .if1 .left))
+    (sym (c .before .before .before .before .before .before .before .before .before .before .crew-ok .ensures) ∙ not-false _ (c .before .before .before .before .before .before .before .before .before .if2 .left))
+    (sym (c .before .before .before .before .before .before .before .before .kind-ok .ensures) ∙ not-false _ (c .before .before .before .before .before .before .before .if3 .left))
+    (sym (c .before .before .before .before .before .before .is-too-long .ensures) ∙ c .before .before .before .before .before .if4 .left)
+    ∙ sym (c .before .before .before .before .soundness .ensures) ∙ c .before .before .sound .given .1)
 
 cast-fresh : tie.Need-cast-fresh
 cast-fresh c =
-    let a = c .before .before .before .before .before .before .before .before .before .before .before .args in
-    let h = within-says _ _ (a .kind) .0
-    (sym (c .before .before .before .before .before .kind-ok .ensures) ∙ not-false _ (c .before .before .before .before .if3 .left)) in
+    let a = c .before .before .before .before .before .before .before .before .before .before .before .before .args in
+    let h = within-says _ _ (a .kind) .0 (sym (c .before .before .before .before .before .before .kind-ok .ensures) ∙ not-false _ (c .before .before .before .before .before .if3 .left)) in
     omega arith
 
 cast-fresh-2 : tie.Need-cast-fresh-2
 cast-fresh-2 c =
-    let a = c .before .before .before .before .before .before .before .before .before .before .before .args in
-    let h = within-says _ _ (length (a .cells .now)) .0
-    (sym (c .before .before .before .before .before .before .before .before .before .size-ok .ensures) ∙ not-false _ (c .before .before .before .before .before .before .before .before .if1 .left)) in
+    let a = c .before .before .before .before .before .before .before .before .before .before .before .before .args in
+    let h = within-says _ _ (length (a .cells .now)) .0 (sym (c .before .before .before .before .before .before .before .before .before .before .size-ok .ensures) ∙ not-false _ (c .before .before .before .before .before .before .before .before .before .if1 .left)) in
     omega arith
 
 cast-fresh-3 : tie.Need-cast-fresh-3
 cast-fresh-3 c =
-    let a = c .before .before .before .before .before .before .before .before .before .before .before .args in
-    let h = within-says _ _ (a .crew) .0
-    (sym (c .before .before .before .before .before .before .before .crew-ok .ensures) ∙ not-false _ (c .before .before .before .before .before .before .if2 .left)) in
+    let a = c .before .before .before .before .before .before .before .before .before .before .before .before .args in
+    let h = within-says _ _ (a .crew) .0 (sym (c .before .before .before .before .before .before .before .before .crew-ok .ensures) ∙ not-false _ (c .before .before .before .before .before .before .before .if2 .left)) in
     omega arith
 
 fresh-requires : tie.Need-fresh-requires
@@ -119,15 +120,14 @@ fresh-requires c κs = search needs
 
 returns-6 : tie.Need-returns-6
 returns-6 c =
-    let a = c .before .before .before .before .before .before .before .before .before .before .before .before .args in
+    let a = c .before .before .before .before .before .before .before .before .before .before .before .before .before .args in
     open-accepted gateway (a .kind) (a .crew) (a .cells .now) (earlyBars gateway (a .kind) (a .crew) (a .cells .now) (a .lines)) _ (c .fresh .ensures)
-    (simp (
-      sym (c .before .before .before .before .before .before .before .before .before .before .size-ok .ensures) ∙ not-false _ (c .before .before .before .before .before .before .before .before .before .if1 .left),
-      sym (c .before .before .before .before .before .before .before .before .crew-ok .ensures) ∙ not-false _ (c .before .before .before .before .before .before .before .if2 .left),
-      sym (c .before .before .before .before .before .before .kind-ok .ensures) ∙ not-false _ (c .before .before .before .before .before .if3 .left),
-      sym (c .before .before .before .before .is-too-long .ensures) ∙ c .before .before .before .if4 .left,
-      sym (c .before .before .is-sound .ensures) ∙ not-false _ (c .before .if5 .left),
-    ))
+    (early-by (a .kind) (a .crew) (a .cells .now) (a .lines)
+    (sym (c .before .before .before .before .before .before .before .before .before .before .before .size-ok .ensures) ∙ not-false _ (c .before .before .before .before .before .before .before .before .before .before .if1 .left))
+    (sym (c .before .before .before .before .before .before .before .before .before .crew-ok .ensures) ∙ not-false _ (c .before .before .before .before .before .before .before .before .if2 .left))
+    (sym (c .before .before .before .before .before .before .before .kind-ok .ensures) ∙ not-false _ (c .before .before .before .before .before .before .if3 .left))
+    (sym (c .before .before .before .before .before .is-too-long .ensures) ∙ c .before .before .before .before .if4 .left)
+    ∙ sym (c .before .before .before .soundness .ensures) ∙ c .before .enum-told .given .1)
 
 pub opened-early-spec : {M : Type 1} → statement M
 opened-early-spec =
@@ -145,11 +145,13 @@ opened-early-spec =
     is-too-long-requires
     refused-requires-4
     returns-4
-    is-sound-requires
+    soundness-requires
+    enum-known-sound
     refused-requires-5
-    returns-5
+    enum-told
     cast-fresh
     cast-fresh-2
     cast-fresh-3
     fresh-requires
+    returns-5
     returns-6)

@@ -1,9 +1,11 @@
 use lib.ListN.{length}
-use mathlib.Core.Path.{sym, _∙_}
-use native.Mathlib.Omega.{arith}
+use mathlib.Core.Path.{sym, ap, _∙_}
+use mathlib.Core.Bool.{true, false}
 use borrow.Author.Needs.{needs}
 use borrow.Author.Tests.{eq-eqb, ne-eqb, lt-ltb, le-ltb, not-true, not-false}
 use Rattle.ring.proofs.Tests.{within-says}
+use Rattle.state.specs.Stages.{isAccepted}
+use Rattle.state.proofs.Opening.{reads-by}
 use Rattle.state.proofs.Phase.reads_list.Statement.{statement}
 use Rattle.state.proofs.Phase.reads_list.Tie as tie
 
@@ -36,22 +38,34 @@ returns-4 c =
       lt-ltb _ _ (c .if4 .taken),
     )
 
-is-sound-requires : tie.Need-is-sound-requires
-is-sound-requires c κs =
+soundness-requires : tie.Need-soundness-requires
+soundness-requires c κs =
     let a = c .before .before .before .before .before .before .before .args in
-    let h = within-says _ _ (length (a .cells .now)) .0
-    (sym (c .before .before .before .before .size-ok .ensures) ∙ not-false _ (c .before .before .before .if2 .left)) in
-    omega arith
+    within-says _ _ (length (a .cells .now)) .0 (sym (c .before .before .before .before .size-ok .ensures) ∙ not-false _ (c .before .before .before .if2 .left)) .1
+
+enum-told : tie.Need-enum-told
+enum-told c = search needs
+
+enum-told-2 : tie.Need-enum-told-2
+enum-told-2 c = search needs
 
 returns-5 : tie.Need-returns-5
 returns-5 c =
-    simp (
-      eq-eqb _ _ (c .before .before .before .before .before .before .if1 .left),
-      sym (c .before .before .before .before .before .size-ok .ensures) ∙ not-false _ (c .before .before .before .before .if2 .left),
-      sym (c .before .before .before .crew-ok .ensures) ∙ not-false _ (c .before .before .if3 .left),
-      le-ltb _ _ (c .before .if4 .left),
-      c .is-sound .ensures,
-    )
+    let a = c .before .before .before .before .before .before .before .before .before .before .args in
+    reads-by (a .kind) (a .crew) (a .cells .now) (a .lines) _ true (ap isAccepted (c .enum-told .given .1)) (c .before .before .soundness .ensures)
+    (eq-eqb _ _ (c .before .before .before .before .before .before .before .before .if1 .left))
+    (sym (c .before .before .before .before .before .before .before .size-ok .ensures) ∙ not-false _ (c .before .before .before .before .before .before .if2 .left))
+    (sym (c .before .before .before .before .before .crew-ok .ensures) ∙ not-false _ (c .before .before .before .before .if3 .left))
+    (le-ltb _ _ (c .before .before .before .if4 .left))
+
+returns-6 : tie.Need-returns-6
+returns-6 c =
+    let a = c .before .before .before .before .before .before .before .before .before .before .args in
+    reads-by (a .kind) (a .crew) (a .cells .now) (a .lines) _ false (ap isAccepted (c .enum-told2 .given .1)) (c .before .before .soundness .ensures)
+    (eq-eqb _ _ (c .before .before .before .before .before .before .before .before .if1 .left))
+    (sym (c .before .before .before .before .before .before .before .size-ok .ensures) ∙ not-false _ (c .before .before .before .before .before .before .if2 .left))
+    (sym (c .before .before .before .before .before .crew-ok .ensures) ∙ not-false _ (c .before .before .before .before .if3 .left))
+    (le-ltb _ _ (c .before .before .before .if4 .left))
 
 pub reads-list-spec : {M : Type 1} → statement M
 reads-list-spec =
@@ -63,5 +77,8 @@ reads-list-spec =
     crew-ok-requires
     returns-3
     returns-4
-    is-sound-requires
-    returns-5)
+    soundness-requires
+    enum-told
+    enum-told-2
+    returns-5
+    returns-6)
