@@ -8,11 +8,13 @@ use std::path::Path;
 use std::process::{Command, Stdio};
 use std::time::Instant;
 
-use conformance::{close, order, order_line, reference_open, reference_run, turn, Call, Calls, Orders, REFUSED};
+use conformance::{close, order, order_line, read_till, reference_open, reference_run, turn, Call, Calls, Orders, REFUSED};
+use reference::generate::till::{written, Quotes, Record};
 use reference::generate::Rng;
 use reference::layout::{content, label_of, layout, way_is_greater, Prices, MAX_PRICE};
 use reference::listing;
 use reference::phase::{Activity, Order, Phase};
+use reference::till;
 
 /// Seconds of the median round of each side.
 fn alternate(rounds: usize, mut ours: impl FnMut() -> f64, mut theirs: impl FnMut() -> f64) -> (f64, f64) {
@@ -379,11 +381,49 @@ fn replays(target: &str) {
     }
 }
 
+/// A till's list of a million records, read for sixteen workers into lists that are just long enough: labels at random, prices of one to seven
+/// digits, each as often.
+fn tills() {
+    const RECORDS: usize = 1_000_000;
+    let mut random = Rng::new(17);
+    let mut record = || {
+        let most = 10usize.pow(random.within(1, 7) as u32);
+        (random.below(u32::MAX as usize) as u32 + 1, random.within(most / 10, most - 1) as u32)
+    };
+    let records: Vec<Record> = (0..RECORDS).map(|_| record()).collect();
+    let expected: Vec<Order> = (0..).zip(&records).map(|(i, &(label, price))| Order { worker: i % 16, label, price }).collect();
+    let columns = [|o: &Order| o.label, |o: &Order| o.price, |o: &Order| o.worker].map(|of| expected.iter().map(of).collect::<Vec<u32>>());
+    for (name, quotes) in [("half of the fields in quotes", Quotes::Mixed), ("no field in quotes", Quotes::Never)] {
+        let text = written(&mut random, &records, quotes, true);
+        let mut ours = [(); 3].map(|()| vec![0; RECORDS]);
+        let mut theirs = vec![Order { worker: 0, label: 0, price: 0 }; RECORDS];
+        let times = alternate(
+            31,
+            || {
+                ours.iter_mut().for_each(|list| list.fill(0));
+                let [keys, prices, workers] = &mut ours;
+                let time = seconds(|| assert_eq!(read_till(black_box(&text), 16, [keys, prices, workers]), Ok(RECORDS)));
+                assert!(ours == columns);
+                time
+            },
+            || {
+                theirs.fill(Order { worker: 0, label: 0, price: 0 });
+                let time = seconds(|| assert_eq!(till::read(black_box(&text), 16, &mut theirs), Ok(RECORDS)));
+                assert!(theirs == expected);
+                time
+            },
+        );
+        let bytes = text.len() as f64 / RECORDS as f64;
+        line(&format!("till list of a million records, {name}, {bytes:.0} bytes each"), "ms", 1e3, times);
+    }
+}
+
 fn main() {
     let target = std::env::var("VULZEGAN_TARGET").expect("VULZEGAN_TARGET names rt's target folder");
     println!("| job | proved | reference | ratio |\n|---|---|---|---|");
     replays(&target);
     turns();
+    tills();
     openings();
     at_rest();
 }

@@ -1,6 +1,9 @@
 //! Safe wrappers of the exported functions of crate `exports`, and their answers in the reference's terms.
 
 use reference::phase::{Answer, Order, Phase};
+use reference::till;
+
+pub mod shifts;
 
 mod raw {
     /// A line of the list of orders, as C lays it out.
@@ -85,6 +88,18 @@ mod raw {
             answers: *mut u64,
             answers_length: usize,
         ) -> u64;
+        #[allow(clippy::too_many_arguments)]
+        pub fn vulzegan_read_till(
+            text: *const u8,
+            text_length: usize,
+            count: u64,
+            keys: *mut u32,
+            keys_length: usize,
+            prices: *mut u32,
+            prices_length: usize,
+            workers: *mut u32,
+            workers_length: usize,
+        ) -> u64;
     }
 }
 
@@ -112,6 +127,35 @@ pub fn count(cells: &[u64]) -> Result<usize, u8> {
 
 pub fn list(cells: &[u64], out: &mut [u64]) -> Result<usize, u8> {
     value(unsafe { raw::vulzegan_list(cells.as_ptr(), cells.len(), out.as_mut_ptr(), out.len()) })
+}
+
+/// Reads a till's list for so many workers into three lists, of keys, prices and workers; the number of records. Lists shorter than 2 to the power 32
+/// are lent, so that no count passes for a refusal.
+pub fn read_till(text: &[u8], count: u64, [keys, prices, workers]: [&mut [u32]; 3]) -> Result<usize, u8> {
+    value(unsafe {
+        raw::vulzegan_read_till(
+            text.as_ptr(),
+            text.len(),
+            count,
+            keys.as_mut_ptr(),
+            keys.len(),
+            prices.as_mut_ptr(),
+            prices.len(),
+            workers.as_mut_ptr(),
+            workers.len(),
+        )
+    })
+}
+
+/// The same by the reference: its list has as many places as the shortest of the three.
+pub fn reference_read_till(text: &[u8], count: u64, [keys, prices, workers]: [&mut [u32]; 3]) -> Result<usize, u8> {
+    let lines = keys.iter().zip(prices.iter()).zip(workers.iter());
+    let mut orders: Vec<Order> = lines.map(|((&label, &price), &worker)| Order { worker, label, price }).collect();
+    let answer = till::read(text, count, &mut orders);
+    for (i, order) in orders.into_iter().enumerate() {
+        (keys[i], prices[i], workers[i]) = (order.label, order.price, order.worker);
+    }
+    answer
 }
 
 /// A list of orders in the two forms that the library takes: three lists, as many lines as the shortest of them has, and one of structs.

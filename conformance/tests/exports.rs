@@ -5,18 +5,16 @@
 use std::collections::BTreeMap;
 use std::time::{Duration, Instant};
 
+use conformance::shifts::{closed, dealt, Entry};
 use conformance::{check, close, count, list, order, order_line, reference_open, reference_run, turn, Call, Calls, Orders, REFUSED, WORDS};
-use reference::generate::{all_tables, fill, later, orders, overwrite, price, returned, spoil, table, torn, Rng, WRONG_PRICES};
-use reference::layout::{content, label_of, layout, price_of, Prices, MAX_PRICE};
+use reference::generate::{all_lists, fill, later, orders, overwrite, price, returned, spoil, table, torn, Rng, WRONG_PRICES};
+use reference::layout::{content, label_of, layout, Prices, MAX_PRICE};
 use reference::listing;
 use reference::phase::{Activity, Order, Phase, PUT_IN, TAKE_OUT};
 use reference::refusal;
 
 /// What stands in lent places before a call.
 const MARK: u64 = 0xDEAD_BEEF_DEAD_BEEF;
-
-/// A label and its price, as an order has them.
-type Entry = (u32, u32);
 
 /// A line of a list of orders.
 fn put(worker: u32, label: u32, price: u32) -> Order {
@@ -116,12 +114,12 @@ fn numbers_of_the_header() {
     for (n, name) in [(1, "WENT_ON"), (2, "FINISHED"), (4, "NO"), (5, "IDLE")] {
         assert_eq!(meaning(&format!("VULZEGAN_{name}")), format!("(VULZEGAN_WORDS + {n})"));
     }
-    for (n, name) in [(4, "UNSOUND"), (17, "GAP"), (18, "DISORDER")] {
+    for (n, name) in [(4, "UNSOUND"), (17, "GAP"), (18, "DISORDER"), (19, "BAD_RECORD"), (20, "BAD_FIELD")] {
         assert_eq!(meaning(&format!("VULZEGAN_{name}")), format!("(VULZEGAN_REFUSED + {n})"));
     }
-    assert!(header.contains("VULZEGAN_REFUSED + the number of documents 01 and 02, 1 to 18."));
+    assert!(header.contains("VULZEGAN_REFUSED + the number of documents 01 and 02, 1 to 20."));
     let functions: Vec<&str> = header.lines().filter(|l| l.contains(" vulzegan_") && l.contains('(')).collect();
-    assert!(functions.len() == 6 && functions.iter().all(|l| l.starts_with("uint64_t vulzegan_")), "{functions:?}");
+    assert!(functions.len() == 7 && functions.iter().all(|l| l.starts_with("uint64_t vulzegan_")), "{functions:?}");
     let text = header.split_whitespace().collect::<Vec<_>>().join(" ");
     for (list, times) in [
         ("(const uint64_t *cells, size_t cells_len", 3),
@@ -132,6 +130,8 @@ fn numbers_of_the_header() {
         ("const uint32_t *order_prices, size_t order_prices_len, const uint32_t *order_workers, size_t order_workers_len,", 2),
         ("const uint32_t *ops, size_t ops_len, const uint32_t *lines, size_t lines_len,", 2),
         ("const uint32_t *workers, size_t workers_len, const uint32_t *keys, size_t keys_len, uint64_t *answers, size_t answers_len);", 2),
+        ("(const uint8_t *text, size_t text_len, uint64_t count, uint32_t *keys, size_t keys_len,", 1),
+        ("uint32_t *prices, size_t prices_len, uint32_t *workers, size_t workers_len);", 1),
     ] {
         assert_eq!(text.matches(list).count(), times, "{list}");
     }
@@ -261,7 +261,7 @@ fn all_small_tables() {
     contents.extend((1..=8).map(|label| content(label, 1)));
     let tally = |cells| {
         let mut tally = Tally::default();
-        all_tables(cells, &contents).for_each(|table| tally.take(&table));
+        all_lists(cells, &contents).for_each(|table| tally.take(&table));
         tally
     };
     // of two cells one is empty and the other has a label, at home there or not
@@ -593,48 +593,6 @@ fn random_lists_of_calls() {
 }
 
 // ---- closed tables
-
-/// The layout that a shift closes on: the set, and for each label the least price among that at opening and those ordered.
-fn closed(kind: u32, table: &[u64], ordered: &[Entry]) -> Vec<u64> {
-    let mut set: Prices = table.iter().filter(|&&c| c != 0).map(|&c| (label_of(c), price_of(c))).collect();
-    for &(label, price) in ordered {
-        match kind {
-            PUT_IN => {
-                let least = set.get(&label).map_or(price, |&now| now.min(price));
-                set.insert(label, least);
-            }
-            TAKE_OUT => drop(set.remove(&label)),
-            _ => (),
-        }
-    }
-    layout(table.len(), &set)
-}
-
-/// The calls of a shift with these orders, each for its worker, from the opening to the close: in put-in shifts by line, some twice.
-fn dealt(random: &mut Rng, kind: u32, crew: u32, table: &[u64], orders: &[Order]) -> Vec<Call> {
-    let mut phase = Phase::open(kind.into(), crew.into(), table, orders).expect("a sound table with room");
-    let mut table = table.to_vec();
-    let mut given = 0;
-    let mut calls = Vec::new();
-    while given < orders.len() || !phase.all_idle() {
-        let next = if given > 0 && given < orders.len() && random.once_in(8) { random.below(given) } else { given };
-        match orders.get(next) {
-            Some(o) if phase.workers[o.worker as usize] == Activity::Idle && random.once_in(2) => {
-                let call = if kind == PUT_IN { order_line(next as u32) } else { order(o.worker, o.label) };
-                phase.order(orders, call.line.into(), call.worker.into(), call.key).expect("an idle worker");
-                calls.push(call);
-                given += usize::from(next == given);
-            }
-            _ => {
-                let worker = random.below(crew as usize) as u32;
-                phase.turn(&mut table, worker.into()).expect("a turn");
-                calls.push(turn(worker));
-            }
-        }
-    }
-    calls.push(close());
-    calls
-}
 
 /// The orders of these entries, each for a worker drawn at random.
 fn for_workers(random: &mut Rng, crew: u32, entries: &[Entry]) -> Vec<Order> {

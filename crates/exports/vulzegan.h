@@ -24,7 +24,7 @@ extern "C" {
 /* Values: a count, the price that a find found, or VULZEGAN_ACCEPTED where a call gives no value and is not refused. */
 #define VULZEGAN_ACCEPTED UINT64_C(0)
 
-/* Refusals: VULZEGAN_REFUSED + the number of documents 01 and 02, 1 to 18. A refusal changes nothing. */
+/* Refusals: VULZEGAN_REFUSED + the number of documents 01 and 02, 1 to 20. A refusal changes nothing. */
 #define VULZEGAN_REFUSED UINT64_C(4294967296)
 
 /* The refusals of a table that is not sound. UNSOUND: no cell is empty, or some cell other than 0 has no key or a price outside the limits.
@@ -34,6 +34,10 @@ extern "C" {
 #define VULZEGAN_GAP (VULZEGAN_REFUSED + 17)
 #define VULZEGAN_DISORDER (VULZEGAN_REFUSED + 18)
 
+/* The refusals of a till's list. BAD_RECORD: a record breaks the grammar or has not two fields. BAD_FIELD: a field is not a number. */
+#define VULZEGAN_BAD_RECORD (VULZEGAN_REFUSED + 19)
+#define VULZEGAN_BAD_FIELD (VULZEGAN_REFUSED + 20)
+
 /* Words: the answers of turns that are neither refused nor a price. */
 #define VULZEGAN_WORDS UINT64_C(8589934592)
 #define VULZEGAN_WENT_ON (VULZEGAN_WORDS + 1)
@@ -41,7 +45,8 @@ extern "C" {
 #define VULZEGAN_NO (VULZEGAN_WORDS + 4)
 #define VULZEGAN_IDLE (VULZEGAN_WORDS + 5)
 
-/* Whether the table is sound: VULZEGAN_ACCEPTED or a refusal. The time is linear in the cells. This and the next two take some 19 KB of stack. */
+/* Whether the table is sound: VULZEGAN_ACCEPTED or a refusal. The time, as measured, is linear in the cells. This and the next two take some
+ * 19 KB of stack. */
 uint64_t vulzegan_check(const uint64_t *cells, size_t cells_len);
 
 /* How many keys the table has, or a refusal. */
@@ -87,6 +92,22 @@ uint64_t vulzegan_run_calls_singly(uint64_t kind, uint64_t count, uint64_t *cell
                                    const uint32_t *ops, size_t ops_len, const uint32_t *lines, size_t lines_len,
                                    const uint32_t *workers, size_t workers_len, const uint32_t *keys, size_t keys_len,
                                    uint64_t *answers, size_t answers_len);
+
+/* Reads a till's list for count workers: how many records it has, or a refusal. Record i becomes keys[i] at prices[i] for worker workers[i],
+ * which is i modulo count: three lists as vulzegan_run_calls takes them. Places behind the records keep their contents, so lend it as many
+ * places on as there are records.
+ * Each list has fewer than 4,294,967,296 places, so that a count is told from a refusal.
+ *
+ * The text is comma-separated after RFC 4180, without a header. It is one record or more, parted by CR LF, and may end in one more CR LF.
+ * A record is two fields parted by a comma: key and price. A field is either any bytes from 0x20 to 0x7E, or none, without comma and double
+ * quote; or it begins and ends with a double quote, and between these stand any bytes from 0x20 to 0x7E, CR and LF, or none, a double quote
+ * always as two. A number is decimal, below 4,294,967,296 and without leading zeros, in double quotes or not.
+ *
+ * The refusals, first to apply: 2 if count is not 1 to 16; then, of the earliest record that has one of them, VULZEGAN_BAD_RECORD before
+ * VULZEGAN_BAD_FIELD; at last 12 if one of the three lists has fewer places than the text has records. A text without bytes is a broken record.
+ * Key 0, prices outside the limits and more than 65,536 records are read here, and refused when a phase is opened with them. */
+uint64_t vulzegan_read_till(const uint8_t *text, size_t text_len, uint64_t count, uint32_t *keys, size_t keys_len,
+                            uint32_t *prices, size_t prices_len, uint32_t *workers, size_t workers_len);
 
 #ifdef __cplusplus
 }

@@ -8,6 +8,8 @@
 //! this only steers its choices. A put-in shift comes behind its items; where
 //! they don't open it, a shift of another kind takes its place and they stay.
 
+pub mod till;
+
 use std::collections::BTreeSet;
 
 use crate::layout::{content, label_of, layout, least_prices, Prices, EMPTY, MAX_PRICE};
@@ -130,16 +132,16 @@ pub fn spoil(rng: &mut Rng, order: &mut Order, crew: usize) {
     }
 }
 
-/// Every table of so many cells that holds these contents and no others.
-pub fn all_tables(cells: usize, contents: &[u64]) -> impl Iterator<Item = Vec<u64>> + '_ {
-    let count = contents.len();
-    (0..count.pow(cells as u32)).map(move |mut number| {
+/// Every list of so many of these.
+pub fn all_lists<T: Copy>(length: usize, of: &[T]) -> impl Iterator<Item = Vec<T>> + '_ {
+    let count = of.len();
+    (0..count.pow(length as u32)).map(move |mut number| {
         let digit = |_| {
             let digit = number % count;
             number /= count;
-            contents[digit]
+            of[digit]
         };
-        (0..cells).map(digit).collect()
+        (0..length).map(digit).collect()
     })
 }
 

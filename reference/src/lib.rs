@@ -7,6 +7,7 @@ pub mod layout;
 pub mod listing;
 pub mod phase;
 pub mod sheet;
+pub mod till;
 
 /// The refusal numbers of documents 01 and 02.
 pub mod refusal {
@@ -31,4 +32,8 @@ pub mod refusal {
     pub const GAP: u8 = 17;
     /// What decides on the way of a label is a label.
     pub const DISORDER: u8 = 18;
+    /// A record breaks the grammar or hasn't two fields.
+    pub const BAD_RECORD: u8 = 19;
+    /// A field isn't a number.
+    pub const BAD_FIELD: u8 = 20;
 }

@@ -30,7 +30,7 @@ enum Line {
 }
 
 /// A number without leading zeros, at most 4294967295.
-fn read_number(field: &[u8]) -> Option<u32> {
+pub(crate) fn read_number(field: &[u8]) -> Option<u32> {
     let (&first, rest) = field.split_first()?;
     if first == b'0' && !rest.is_empty() {
         return None;

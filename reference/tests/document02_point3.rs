@@ -2,7 +2,7 @@
 
 use std::collections::BTreeSet;
 
-use reference::generate::{all_tables, fill, overwrite, returned, table, torn, Rng, WRONG_PRICES};
+use reference::generate::{all_lists, fill, overwrite, returned, table, torn, Rng, WRONG_PRICES};
 use reference::layout::{content, layout, soundness, Prices};
 use reference::listing::{check, count, list, list_front};
 use reference::phase::{Answer, Order, Phase};
@@ -183,7 +183,7 @@ fn the_first_content_on_the_way() {
     for home in 0..n {
         let cell = |step: usize| (home + step) % n;
         let label = (50 * n + home) as u32;
-        for way in all_tables(3, &[0, 1, 2, 3]) {
+        for way in all_lists(3, &[0, 1, 2, 3]) {
             let mut table = vec![0; n];
             for (step, &what) in way.iter().enumerate() {
                 // The others are at home where they stand.
@@ -440,7 +440,7 @@ impl Tally {
 /// How often each number is said of all tables of these contents.
 fn tally(n: usize, contents: &[u64]) -> [usize; 4] {
     let mut tally = Tally::default();
-    for table in all_tables(n, contents) {
+    for table in all_lists(n, contents) {
         tally.take(&table);
     }
     tally.said()
@@ -495,7 +495,7 @@ fn all_calls_on_small_tables() {
     for n in 2..=4 {
         let mut contents = vec![0, 1, content(2, 0), content(2, 7)];
         contents.extend((1..=2 * n).map(|label| content(label as u32, 1)));
-        for table in all_tables(n, &contents) {
+        for table in all_lists(n, &contents) {
             assert_eq!(said(&table), by_sets(&table));
         }
     }

@@ -2,7 +2,7 @@
 
 use std::collections::HashMap;
 
-use reference::generate::{all_tables, price, Rng};
+use reference::generate::{all_lists, price, Rng};
 use reference::layout::{
     content, is_sound, label_of, layout, least_prices, soundness, way_is_greater, Prices,
 };
@@ -387,7 +387,7 @@ fn one_sound_table_per_set() {
         if n < 4 {
             contents.extend([1, 9_999_999, content(1, 0), content(2, 10_000_000)]);
         }
-        for table in all_tables(n, &contents) {
+        for table in all_lists(n, &contents) {
             let set = prices(&table);
             let right = table.iter().all(|cell| right.contains(cell));
             let laid = set.len() < n && right && table == layout(n, &set);

@@ -25,7 +25,7 @@ use Rattle.state.specs.declared.Phase.{Phase}
 use Rattle.state.specs.declared.Refusal.the-variants.{Size}
 use Rattle.state.specs.declared.Reply.{Reply}
 use Rattle.state.specs.declared.Reply.the-variants as reply
-use Rattle.tables.specs.declared.Counted.{Counted}
+use Rattle.state.specs.declared.Counted.{Counted}
 use Rattle.printing.specs.declared.Told.{Told}
 use Rattle.printing.specs.declared.Told.the-variants as told
 use Rattle.fitting.specs.Fitting.{mostItems, Kept}

@@ -6,10 +6,10 @@ use fitting::Task;
 use lines::Command;
 use lines::Line;
 use printing::Told;
+use state::Counted;
 use state::Phase;
 use state::Refusal;
 use state::Reply;
-use tables::Counted;
 ghost use mathlib.Core.Path.{_≡_};
 ghost use mathlib.Core.Bool.{true, false};
 ghost use Prim.Native.Nat.{_+_, _≤_, _<_};
@@ -264,7 +264,7 @@ fn list_table(replay: Replay, cells: &[u64]) -> Done
     let length = replay.length;
     let counted = rest::count(&cells[..length]);
     match counted {
-        Counted::Keys(count) => tell(replay.phase, length, replay.items, Told::Listed(count)),
+        Counted::Count(count) => tell(replay.phase, length, replay.items, Told::Listed(count)),
         Counted::Refused(why) => tell(
             replay.phase,
             length,

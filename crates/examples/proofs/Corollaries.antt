@@ -51,7 +51,8 @@ use Rattle.protocol.specs.IsWellFormed.{isWellFormed}
 use Rattle.protocol.specs.Promise.{Soundness}
 use Rattle.protocol.specs.WellFormed.{Size}
 use Rattle.protocol.proofs.Soundness.{sounds}
-use Rattle.tables.specs.Calls.{countNumber, checkCall, listCall, listAfter, listFront}
+use Rattle.state.specs.Counts.{countNumber}
+use Rattle.tables.specs.Calls.{checkCall, listCall, listAfter, listFront}
 use Rattle.tables.proofs.Theorem.{theorem as tables}
 use Rattle.history.specs.History.{turn, worked, call, run, turnReplies, opening, after}
 use Rattle.history.specs.Promise.{entriesAfter, Alike, Claim}

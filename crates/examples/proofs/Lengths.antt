@@ -42,7 +42,8 @@ use Rattle.protocol.proofs.Soundness.{sounds}
 use Rattle.protocol.specs.Calls.{turnCheck}
 use Rattle.protocol.specs.IsWellFormed.{isWellFormed}
 use Rattle.protocol.specs.WellFormed.{Size}
-use Rattle.tables.specs.Calls.{countNumber, checkCall, listCall, listAfter, listFront}
+use Rattle.state.specs.Counts.{countNumber}
+use Rattle.tables.specs.Calls.{checkCall, listCall, listAfter, listFront}
 use Rattle.tables.proofs.Theorem.{theorem as tables}
 use Rattle.history.specs.History.{turn, call, run, after}
 use Rattle.history.proofs.Theorem.{keeps-table, one-table, two-turns}

@@ -47,9 +47,10 @@ use Rattle.protocol.specs.declared.TurnReply.{TurnReply}
 use Rattle.protocol.specs.declared.TurnReply.the-variants.{Answered}
 use Rattle.protocol.specs.declared.TurnReply.the-variants as turnReply
 use Rattle.protocol.proofs.Theorem.{well-formed, orders, turns, closes as closings}
-use Rattle.tables.specs.Calls.{countNumber, countValue, countedBy, ifCounted, tableBars, checkCall, listBars, listCall}
-use Rattle.tables.specs.declared.Counted.{Counted}
-use Rattle.tables.specs.declared.Counted.the-variants as counted
+use Rattle.state.specs.Counts.{countNumber, countValue, countedBy, ifCounted}
+use Rattle.state.specs.declared.Counted.{Counted}
+use Rattle.state.specs.declared.Counted.the-variants as counted
+use Rattle.tables.specs.Calls.{tableBars, checkCall, listBars, listCall}
 use Rattle.history.specs.History.{after}
 use Rattle.history.specs.History as history
 use Rattle.numbered.specs.Lists.{answersOf}
@@ -291,7 +292,7 @@ blank-filled : (n : ℕ) (out : List ℕ) → filled (emptyCells n) out ≡ out
 blank-filled n out = ap₂ (λ (l : List ℕ) (c : ℕ). l ++ drop c out) (no-keys n) (blank-count n)
 
 either : (a : Counted) (x y : List ℕ) → x ≡ y → ifCounted a x y ≡ y
-either (counted.Keys c) x y e = e
+either (counted.Count c) x y e = e
 either (counted.Refused r) x y e = refl
 
 count-number : (c : ℕ) (r : Reply) → countNumber (countedBy c r) ≡ replyNumber r

@@ -25,6 +25,7 @@ use Rattle.rule.specs.Events as events
 use Rattle.rule.specs.Schedules.{one, ones, steps}
 use Rattle.rule.specs.Schedules as schedules
 use Rattle.phases.specs.Promise.{mostSteps, Right}
+use Rattle.state.specs.Counts.{countNumber, countValue}
 use Rattle.state.specs.Model.{gateway}
 use Rattle.state.specs.Open.{openCall}
 use Rattle.state.specs.Refusals.{replyNumber}
@@ -37,7 +38,7 @@ use Rattle.protocol.specs.IsWellFormed.{isWellFormed}
 use Rattle.protocol.specs.Lines.{Good}
 use Rattle.protocol.specs.Promise.{Soundness}
 use Rattle.protocol.specs.declared.TurnReply.the-variants.{Answered}
-use Rattle.tables.specs.Calls.{countNumber, countValue, checkCall, countCall, listCall, listAfter, listFront}
+use Rattle.tables.specs.Calls.{checkCall, countCall, listCall, listAfter, listFront}
 use Rattle.history.specs.History.{Call, order, turn, close, after}
 use Rattle.history.specs.Promise.{Carried, present, OfLine}
 use Rattle.examples.specs.Forms.{emptyCells, phase, worker, allIdle, busyOne, handedBack, line, handed, callsOf}

@@ -15,13 +15,14 @@ use Rattle.activities.specs.declared.Activity.the-variants as activity
 use Rattle.activities.specs.declared.Worker.{Worker}
 use Rattle.rule.specs.declared.Answer.{Answer}
 use Rattle.rule.specs.Schedules.{Schedule, Closes}
+use Rattle.state.specs.Counts.{countNumber, countValue}
 use Rattle.state.specs.Model.{Model, gateway}
 use Rattle.state.specs.Open.{openReply, openCall}
 use Rattle.state.specs.Refusals.{replyNumber}
 use Rattle.state.specs.declared.Phase.{Phase}
 use Rattle.protocol.specs.Calls.{turnNumber, closeCall, orderCall, turnCall, turnTable}
 use Rattle.protocol.specs.declared.TurnReply.the-variants.{Answered}
-use Rattle.tables.specs.Calls.{countNumber, countValue, checkCall, countCall, listCall, listAfter, listFront}
+use Rattle.tables.specs.Calls.{checkCall, countCall, listCall, listAfter, listFront}
 use Rattle.history.specs.History.{Call, order, turn, after}
 use Rattle.history.specs.History as history
 use Rattle.numbered.specs.Lists.{answersOf}

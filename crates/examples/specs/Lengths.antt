@@ -14,11 +14,12 @@ use Rattle.rule.specs.Events.{Event}
 use Rattle.rule.specs.Events as events
 use Rattle.rule.specs.Schedules.{one, ones, steps}
 use Rattle.phases.specs.Promise.{Roomy}
+use Rattle.state.specs.Counts.{countValue}
 use Rattle.state.specs.Model.{gateway}
 use Rattle.state.specs.Refusals.{replyNumber}
 use Rattle.state.specs.declared.Phase.{Phase}
 use Rattle.protocol.specs.Calls.{turnCall}
-use Rattle.tables.specs.Calls.{countValue, checkCall, countCall, listAfter, listFront}
+use Rattle.tables.specs.Calls.{checkCall, countCall, listAfter, listFront}
 use Rattle.history.specs.History.{Call, order, turn, close, after}
 use Rattle.examples.specs.Forms.{emptyCells, phase, worker, allIdle, alone, line, handed}
 use Rattle.examples.specs.Corollaries.{rounds, sixPlaces}

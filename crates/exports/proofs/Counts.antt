@@ -8,33 +8,44 @@ use Rattle.layout.specs.Layout.{size}
 use Rattle.layout.proofs.Sets.{size-le}
 use Rattle.prices.specs.Contents.{label}
 use Rattle.prices.specs.Priced.{labels}
+use Rattle.state.specs.Counts.{countNumber, countValue}
 use Rattle.state.specs.Model.{gateway}
+use Rattle.state.specs.declared.Counted.the-variants as counted
 use Rattle.state.proofs.Model.{gateway-proper}
-use Rattle.tables.specs.Calls.{countNumber, countValue, countCall, listCall}
+use Rattle.tables.specs.Calls.{countCall, listCall}
 use Rattle.tables.specs.Promise.{AtRest}
-use Rattle.tables.specs.declared.Counted.the-variants as counted
 use Rattle.tables.proofs.Theorem.{theorem}
+use Rattle.till.specs.Till.{tillCall}
+use Rattle.till.proofs.Theorem.{answers}
 use Rattle.exports.specs.Numbers.{CountsPromise}
 
 module _ (t out : List ℕ) (c : ℕ) where
   abbrev at-rest : AtRest gateway t out
   at-rest = theorem gateway gateway-proper t out
 
-  is-count : countCall gateway t ≡ counted.Keys c → (c ≡ size (labels label t)) × (length t ≤ 8192)
+  is-count : countCall gateway t ≡ counted.Count c → (c ≡ size (labels label t)) × (length t ≤ 8192)
   is-count e =
       let usable = at-rest .passes .0 (sym (at-rest .count-refused) ∙ ap countNumber e) in
       (sym (ap countValue e) ∙ at-rest .count-true usable, usable .0 .1)
 
-  is-listed : listCall gateway t out ≡ counted.Keys c → (c ≡ size (labels label t)) × (length t ≤ 8192)
+  is-listed : listCall gateway t out ≡ counted.Count c → (c ≡ size (labels label t)) × (length t ≤ 8192)
   is-listed e =
       let (_, (_, (_, (_, (_, none))))) = at-rest .list in
       let (((((_, sized), _), _), _), _) = none .0 (ap countNumber e) in
       (sym (ap countValue e) ∙ at-rest .list-true (ap countNumber e), sized .1)
 
+-- a till list has no more records than there are places
+is-read : (text : List ℕ) (m places c : ℕ) → tillCall gateway text m places ≡ counted.Count c → c ≤ places
+is-read text m places c e =
+    let a = answers gateway text m places in
+    let (_, (ls, holds, room)) = a .accepts .0 (ap countNumber e) in
+    omega (arith, room, sym (ap countValue e) ∙ a .count ls holds (ap countNumber e))
+
 pub counts-promise : CountsPromise
 counts-promise = record {
-  keys = λ c. refl;
+  value = λ c. refl;
   refused = λ r. refl;
   count = λ t c e. omega (arith, size-le (labels label t), length-map t label, is-count t t c e);
   list = λ t out c e. omega (arith, size-le (labels label t), length-map t label, is-listed t out c e);
+  till = is-read;
 }

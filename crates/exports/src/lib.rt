@@ -2,14 +2,16 @@
 use orders::Order;
 use singly::refusal_answer;
 use singly::reply_answer;
+use state::Counted;
 use state::Phase;
 use state::Replied;
-use tables::Counted;
 ghost use mathlib.Core.Path.{_≡_};
+ghost use lib.ListN.{length};
 ghost use Rattle.orders.specs.Orders.{ordersOf};
 ghost use Rattle.state.specs.Model.{gateway};
 ghost use Rattle.state.specs.Open.{openCall};
 ghost use Rattle.tables.specs.Calls.{checkCall, countCall, listCall, listAfter};
+ghost use Rattle.till.specs.Till.{tillCall, keysAfter, pricesAfter, workersAfter};
 ghost use Rattle.numbered.specs.Numbers.{replyAnswer};
 ghost use Rattle.numbered.specs.Batch.{Promised};
 ghost use Rattle.exports.specs.Numbers.{countedAnswer, RunNumbers};
@@ -19,7 +21,7 @@ fn counted_answer(counted: Counted) -> u64
     ensures { λ r. ⌜ r ≡ countedAnswer counted ⌝ }
 {
     match counted {
-        Counted::Keys(count) => count as u64,
+        Counted::Count(count) => count as u64,
         Counted::Refused(why) => refusal_answer(why),
     }
 }
@@ -50,6 +52,24 @@ pub extern "C" fn vulzegan_list(cells: &[u64], out: &mut [u64]) -> u64
 {
     let listed = rest::list(cells, out);
     counted_answer(listed)
+}
+
+// Reads a till list into a list of orders, lent as its keys, its prices and its workers, for a crew of so many: how many records the text has.
+#[no_mangle]
+pub extern "C" fn vulzegan_read_till(
+    text: &[u8],
+    count: u64,
+    keys: &mut [u32],
+    prices: &mut [u32],
+    workers: &mut [u32],
+) -> u64
+    ensures { λ r. ⌜ (r ≡ countedAnswer (tillCall gateway (now (text .entry)) count (length (ordersOf (now (keys .entry)) (now (prices .entry)) (now (workers .entry))))))
+        × (now (keys .exit) ≡ keysAfter gateway (now (text .entry)) count (now (keys .entry)) (now (prices .entry)) (now (workers .entry)))
+        × (now (prices .exit) ≡ pricesAfter gateway (now (text .entry)) count (now (keys .entry)) (now (prices .entry)) (now (workers .entry)))
+        × (now (workers .exit) ≡ workersAfter gateway (now (text .entry)) count (now (keys .entry)) (now (prices .entry)) (now (workers .entry))) ⌝ }
+{
+    let read = reading::read_till_parallel(text, count, keys, prices, workers);
+    counted_answer(read)
 }
 
 // The number of the answer of an opening.

@@ -1,8 +1,8 @@
 // The calls on a table at rest: check, count and list. They need no phase.
+use state::Counted;
 use state::Phase;
 use state::Refusal;
 use state::Reply;
-use tables::Counted;
 ghost use mathlib.Core.Path.{_≡_};
 ghost use denote.Ref.{ptr};
 ghost use Rattle.state.specs.Model.{gateway};
@@ -21,7 +21,7 @@ pub fn count(cells: &[u64]) -> Counted
 {
     let checked = check(cells);
     match checked {
-        Reply::Accepted => Counted::Keys(listing::count_keys(cells)),
+        Reply::Accepted => Counted::Count(listing::count_keys(cells)),
         Reply::Refused(why) => Counted::Refused(why),
     }
 }
@@ -39,7 +39,7 @@ pub fn list(cells: &[u64], out: &mut [u64]) -> Counted
             if room < count {
                 Counted::Refused(Refusal::ShortList)
             } else {
-                Counted::Keys(count)
+                Counted::Count(count)
             }
         }
     }
@@ -51,7 +51,7 @@ pub fn list_front<'a>(cells: &[u64], out: &'a mut [u64]) -> &'a mut [u64]
 {
     let listed = list(cells, out);
     match listed {
-        Counted::Keys(count) => &mut out[..count],
+        Counted::Count(count) => &mut out[..count],
         Counted::Refused(_) => &mut out[..0],
     }
 }

@@ -19,8 +19,8 @@ use Rattle.state.specs.declared.Replied.{Replied}
 use Rattle.state.specs.declared.Reply.{Reply}
 use Rattle.state.specs.declared.Reply.the-variants.{Accepted, Refused}
 use Rattle.tables.specs.Calls.{checkCall, listCall}
-use Rattle.tables.specs.declared.Counted.{Counted}
-use Rattle.tables.specs.declared.Counted.the-variants as counted
+use Rattle.state.specs.declared.Counted.{Counted}
+use Rattle.state.specs.declared.Counted.the-variants as counted
 use Rattle.tables.proofs.Answers.{list-by}
 use Rattle.protocol.specs.Calls as protocol
 use Rattle.protocol.specs.Calls.{closeReply, closeCall, orderCall, turnCall}
@@ -197,7 +197,7 @@ module _ (s : State) where
 
   -- ---- shut or open
   -- the list call's count is that of the keys: there is always room for them
-  all-listed : checkCall gateway (s .table) ≡ Accepted → listCall gateway (s .table) (s .table) ≡ counted.Keys (length (entriesOf (s .table)))
+  all-listed : checkCall gateway (s .table) ≡ Accepted → listCall gateway (s .table) (s .table) ≡ counted.Count (length (entriesOf (s .table)))
   all-listed e =
       let t = s .table in
       let count : countOf t ≡ length (entriesOf t) = listing t .count ∙ sym (listing t .long) in
@@ -268,7 +268,7 @@ module _ (s : State) where
         ∙ rw (reply-text (closeCall gateway (s .phase) .reply));
     close-refused = λ r e. closed ∙ rw (e, refused-phase r e);
     close-clears = λ is e. closed ∙ rw (e, eq-eqb (s .phase .kind) 1 is);
-    list = λ e. listed-as (counted.Keys (length (entriesOf (s .table)))) (all-listed e) ∙ ap (answering s) (list-text (entriesOf (s .table)));
+    list = λ e. listed-as (counted.Count (length (entriesOf (s .table)))) (all-listed e) ∙ ap (answering s) (list-text (entriesOf (s .table)));
     list-refused = λ r e. listed-as (counted.Refused r) (list-by gateway (s .table) (s .table) (Refused r) e);
     keeps-items = keeps-items;
   }

@@ -14,8 +14,8 @@ use Rattle.state.specs.declared.Replied.{Replied}
 use Rattle.state.specs.declared.Reply.{Reply}
 use Rattle.state.specs.declared.Reply.the-variants.{Accepted, Refused}
 use Rattle.tables.specs.Calls.{listCall}
-use Rattle.tables.specs.declared.Counted.{Counted}
-use Rattle.tables.specs.declared.Counted.the-variants as counted
+use Rattle.state.specs.declared.Counted.{Counted}
+use Rattle.state.specs.declared.Counted.the-variants as counted
 use Rattle.protocol.specs.Calls.{closeCall, orderCall, turnCall, turnTable}
 use Rattle.text.specs.Digits.{mostDigits, digitsOf}
 use Rattle.lines.specs.declared.Command.{Command}
@@ -98,7 +98,7 @@ closeTask s = let r = closeCall gateway (s .phase) in calls (s .table) (itemsAft
 
 -- listed into a list as long as the table
 abbrev pub listTold : Counted → Told
-listTold (counted.Keys c) = Listed c
+listTold (counted.Count c) = Listed c
 listTold (counted.Refused r) = replied (Refused r)
 
 abbrev pub listTask : State → Step

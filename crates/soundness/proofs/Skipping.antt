@@ -51,7 +51,7 @@ module _ (home : ℕ → ℕ) (t links : List ℕ) where
       let z : suc j + d ≡ j + suc d = omega arith in
       subst Come z (by-steps d (suc j) (come-on j k (omega arith) (e j (omega arith) (omega arith))) (omega arith) (λ i p q. e i (omega arith) (omega arith)))
 
-  pub come-past : {j c : ℕ} → Come j → Skipped t j c → Come c
+  come-past : {j c : ℕ} → Come j → Skipped t j c → Come c
   come-past {j} {c} k s =
       let z : j + (c - j) ≡ c = omega (arith, s .from) in
       subst Come z (by-steps (c - j) j k (omega (arith, s .to, s .from)) (λ i p q. s .empty i p (omega (arith, s .from))))

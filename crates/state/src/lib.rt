@@ -24,6 +24,7 @@ ghost use Rattle.state.specs.Stages.{readsList, earlyBars, lateBars};
 
 // Why a call is refused: the words of document 01's table, in its order, then the numbers of document 02.
 // `Unsound` is a table without an empty cell or with a cell that is wrong by itself, `Gap` and `Disorder` one whose labels break the way rule.
+// `BadRecord` is a record of a till list that breaks the grammar or has not two fields, `BadField` one with a field that is no number.
 pub enum Refusal {
     Size,
     Crew,
@@ -43,6 +44,8 @@ pub enum Refusal {
     LongList,
     Gap,
     Disorder,
+    BadRecord,
+    BadField,
 }
 
 impl Refusal {
@@ -69,6 +72,8 @@ impl Refusal {
             Refusal::LongList => 16,
             Refusal::Gap => 17,
             Refusal::Disorder => 18,
+            Refusal::BadRecord => 19,
+            Refusal::BadField => 20,
         }
     }
 }
@@ -76,6 +81,12 @@ impl Refusal {
 // The answer of a call that gives no value.
 pub enum Reply {
     Accepted,
+    Refused(Refusal),
+}
+
+// The answer of a call that gives a count.
+pub enum Counted {
+    Count(usize),
     Refused(Refusal),
 }
 

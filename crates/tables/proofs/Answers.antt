@@ -16,12 +16,13 @@ use Rattle.state.proofs.Sequence.{orElse, first-append}
 use Rattle.state.specs.declared.Refusal.the-variants.{ShortList}
 use Rattle.state.specs.declared.Reply.{Reply}
 use Rattle.state.specs.declared.Reply.the-variants.{Accepted, Refused}
-use Rattle.tables.specs.declared.Counted.{Counted}
-use Rattle.tables.specs.declared.Counted.the-variants as counted
-use Rattle.tables.specs.Calls.{countedBy, ifCounted, tableBars, checkCall, countCall, listBars, listCall, listAfter, listFront}
+use Rattle.state.specs.declared.Counted.{Counted}
+use Rattle.state.specs.declared.Counted.the-variants as counted
+use Rattle.state.specs.Counts.{countedBy, ifCounted}
+use Rattle.tables.specs.Calls.{tableBars, checkCall, countCall, listBars, listCall, listAfter, listFront}
 
 -- an answer with a count has the sum of the ones
-is-count : (r : Reply) (x c : ℕ) → countedBy x r ≡ counted.Keys c → c ≡ x
+is-count : (r : Reply) (x c : ℕ) → countedBy x r ≡ counted.Count c → c ≡ x
 is-count Accepted x c e = cc
 is-count (Refused r) x c e = let z : _≡_ {A = ℕ} 0 1 = cc in omega arith
 
@@ -52,19 +53,19 @@ module _ (M : Model) (t : List ℕ) where
           let h′ : length out < countOf t = omega arith in
           listed-as (counted.Refused ShortList) (list-by Accepted ok ∙ rw (lt-ltb (length out) (countOf t) h′)) l (left ∙ rw (lt-leb (countOf t) (length out) h′))
 
-      pub full : c ≤ length out → (counted.Keys c ≡ listCall M t out) × (l ≡ listAfter M t out)
+      pub full : c ≤ length out → (counted.Count c ≡ listCall M t out) × (l ≡ listAfter M t out)
       full h =
           let h′ : countOf t ≤ length out = omega arith in
-          listed-as (counted.Keys c) (list-by Accepted ok ∙ rw (le-ltb (length out) (countOf t) h′, count)) l (left ∙ rw (le-leb (countOf t) (length out) h′))
+          listed-as (counted.Count c) (list-by Accepted ok ∙ rw (le-ltb (length out) (countOf t) h′, count)) l (left ∙ rw (le-leb (countOf t) (length out) h′))
 
     -- ---- where the list call gave the count c and left the list l, its first c places are the entries
-    module _ (c : ℕ) (l : List ℕ) (e : listCall M t out ≡ counted.Keys c) (left : l ≡ listAfter M t out) where
+    module _ (c : ℕ) (l : List ℕ) (e : listCall M t out ≡ counted.Count c) (left : l ≡ listAfter M t out) where
       counts : c ≡ length (entriesOf t)
       counts = is-count (firstOf (listBars M t out)) (countOf t) c e ∙ theorem t .count ∙ sym (theorem t .long)
 
       pub front : take c l ≡ listFront M t out
       front =
-          ap (take c) (left ∙ ap (λ (a : Counted). ifCounted a (filled t out) out) e) ∙ take-at (entriesOf t) (drop (occupied t) out) c (sym counts) ∙ sym (front-as (counted.Keys c) e)
+          ap (take c) (left ∙ ap (λ (a : Counted). ifCounted a (filled t out) out) e) ∙ take-at (entriesOf t) (drop (occupied t) out) c (sym counts) ∙ sym (front-as (counted.Count c) e)
 
       pub front-length : c ≡ length (take c l)
-      front-length = counts ∙ sym (ap length (front ∙ front-as (counted.Keys c) e))
+      front-length = counts ∙ sym (ap length (front ∙ front-as (counted.Count c) e))

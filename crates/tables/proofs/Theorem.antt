@@ -16,31 +16,24 @@ use Rattle.words.specs.Words.{entriesOf, filled, countOf}
 use Rattle.words.specs.Promise.{InCellOrder, keysBefore}
 use Rattle.words.proofs.Order.{filled-in-order, filled-behind, length-filled}
 use Rattle.words.proofs.Theorem.{theorem as listing}
+use Rattle.state.specs.Counts.{countNumber, countValue, countedBy, ifCounted}
 use Rattle.state.specs.Model.{Model, Proper}
 use Rattle.state.specs.Refusals.{replyNumber, firstOf}
+use Rattle.state.specs.declared.Counted.{Counted}
+use Rattle.state.specs.declared.Counted.the-variants as counted
 use Rattle.state.specs.declared.Refusal.the-variants.{ShortList}
 use Rattle.state.specs.declared.Reply.{Reply}
-use Rattle.state.specs.declared.Reply.the-variants.{Accepted, Refused}
+use Rattle.state.specs.declared.Reply.the-variants.{Accepted}
+use Rattle.state.proofs.Counts.{count-number, kept}
 use Rattle.protocol.specs.Cases.{Decides}
 use Rattle.protocol.specs.Promise.{GappedIn, DisorderedIn}
 use Rattle.protocol.specs.WellFormed.{Size}
 use Rattle.protocol.proofs.Calls.{sizeSteps, soundSteps}
 use Rattle.protocol.proofs.Chain.{Step, casesOf, decides, none-accepted}
 use Rattle.protocol.proofs.Soundness.{sounds}
-use Rattle.tables.specs.declared.Counted.{Counted}
-use Rattle.tables.specs.declared.Counted.the-variants as counted
-use Rattle.tables.specs.Calls.{countNumber, countValue, countedBy, ifCounted, checkCall, countCall, listBars, listCall, listAfter, listFront}
+use Rattle.tables.specs.Calls.{checkCall, countCall, listBars, listCall, listAfter, listFront}
 use Rattle.tables.specs.Promise.{Usable, checkCases, listCases, AtRest, AtRestPromise}
 use Rattle.tables.proofs.Answers.{list-by}
-
--- ---- by the form of an answer
-count-number : (x : ℕ) (r : Reply) → countNumber (countedBy x r) ≡ replyNumber r
-count-number x Accepted = refl
-count-number x (Refused r) = refl
-
-kept : (a : Counted) (x y : List ℕ) → countNumber a ≢ 0 → ifCounted a x y ≡ y
-kept (counted.Keys c) x y h = absurd (h refl)
-kept (counted.Refused r) x y h = refl
 
 module _ (M : Model) (proper : Proper M) (t : List ℕ) where
   -- a table that the check accepts has as many ones as keys
@@ -126,7 +119,7 @@ module _ (M : Model) (proper : Proper M) (t : List ℕ) where
           let (((((_, sized), w), g), d), l) = none .0 z in
           (usable sized w g d, l)
 
-      full : listCall M t out ≡ counted.Keys (countOf t)
+      full : listCall M t out ≡ counted.Count (countOf t)
       full = list-by M t out Accepted (accepted (passed .0)) ∙ rw (le-ltb (length out) (countOf t) (passed .1))
 
       is-size : countOf t ≡ size (labels label t)

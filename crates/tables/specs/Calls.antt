@@ -6,32 +6,11 @@ use lib.ListN.{length}
 use Rattle.words.specs.Words.{entriesOf, filled, countOf}
 use Rattle.state.specs.Model.{Model}
 use Rattle.state.specs.Open.{sizeBars, soundBars}
-use Rattle.state.specs.Refusals.{numberOf, Bar, if, firstOf}
+use Rattle.state.specs.Counts.{countedBy, ifCounted}
+use Rattle.state.specs.Refusals.{Bar, if, firstOf}
+use Rattle.state.specs.declared.Counted.{Counted}
 use Rattle.state.specs.declared.Refusal.the-variants.{ShortList}
 use Rattle.state.specs.declared.Reply.{Reply}
-use Rattle.state.specs.declared.Reply.the-variants.{Accepted, Refused}
-use Rattle.tables.specs.declared.Counted.{Counted}
-use Rattle.tables.specs.declared.Counted.the-variants as counted
-
--- ---- the documents' number of a count's answer, 0 where the call is not refused, and the value that it gives
-abbrev pub countNumber : Counted → ℕ
-countNumber (counted.Keys c) = 0
-countNumber (counted.Refused r) = numberOf r
-
-abbrev pub countValue : Counted → ℕ
-countValue (counted.Keys c) = c
-countValue (counted.Refused r) = 0
-
--- ---- the calls
--- a count, where the call is not refused
-abbrev pub countedBy : ℕ → Reply → Counted
-countedBy c Accepted = counted.Keys c
-countedBy c (Refused r) = counted.Refused r
-
--- one of two lists: the first where the call is not refused
-abbrev pub ifCounted : Counted → List ℕ → List ℕ → List ℕ
-ifCounted (counted.Keys c) kept refused = kept
-ifCounted (counted.Refused r) kept refused = refused
 
 module _ (M : Model) (t : List ℕ) where
   -- check: refusals 1, then 4, 17 and 18, in that order

@@ -8,12 +8,13 @@ use Rattle.layout.specs.Layout.{size}
 use Rattle.prices.specs.Contents.{label}
 use Rattle.prices.specs.Priced.{labels}
 use Rattle.words.specs.Promise.{InCellOrder}
+use Rattle.state.specs.Counts.{countNumber, countValue}
 use Rattle.state.specs.Model.{Model, Proper}
 use Rattle.state.specs.Refusals.{replyNumber}
 use Rattle.protocol.specs.Cases.{Case, case, Decides}
 use Rattle.protocol.specs.Promise.{Soundness, sizeCases, soundCases}
 use Rattle.protocol.specs.WellFormed.{Size}
-use Rattle.tables.specs.Calls.{countNumber, countValue, checkCall, countCall, listCall, listAfter, listFront}
+use Rattle.tables.specs.Calls.{checkCall, countCall, listCall, listAfter, listFront}
 
 module _ (M : Model) (t : List ℕ) where
   -- a table that every call accepts

@@ -1,21 +1,22 @@
 -- The decimal digits of a number: how they go on, what they are worth, and that a field which is read as a number is its digits.
 use mathlib.Core.Path.{_≡_, refl, sym, _∙_, ap}
-use mathlib.Core.Bool.{true, _&&_, and-assoc}
+use mathlib.Core.Bool.{true, false}
 use mathlib.Core.List.{List, [], _∷_, _++_, append-nil}
 use Prim.Native.Nat.{ℕ, zero, suc, _+_, _-_, _*_, _/_, _%_, _^_, _≤_, _<_}
 use native.Mathlib.Omega.{arith}
 use native.Mathlib.Nat.{pow-succ'}
 use borrow.Author.Tests.{lt-ltb, le-ltb, eqb-false, not-true}
 use lib.Arith.{lt-of-le-ne}
-use lib.Dec.{leb, eqb}
+use lib.Dec.{eqb}
 use lib.ListN.{length, getD, length-append, List·getD-append}
 use lib.Seq.{append-snoc}
 use Rattle.text.specs.Bytes.{byteAt}
 use Rattle.text.specs.Numbers.{greatestNumber, longestNumber, digits, leads, valueFrom, valueOf, isNumber}
 use Rattle.text.specs.Digits.{digitsWithin, mostDigits, digitsOf}
-use Rattle.text.proofs.Test.{by-lt, true-false}
+use Rattle.text.proofs.Test.{by-test, by-lt, true-false}
 use Rattle.text.proofs.Bytes.{by-byte}
-use Rattle.text.proofs.Values.{leads-other, digits-nil, digit-more, digit-parts, tab-no-digits, value-nil, value-cons, is-number, number-parts}
+use Rattle.text.proofs.Values.{leads-other, digits-nil, digits-append, digit-more, digit-parts, tab-no-digits}
+use Rattle.text.proofs.Values.{value-nil, value-cons, is-number, number-parts}
 
 -- a bound that is great enough does not matter
 within-enough : (k m n : ℕ) → n < k → n < m → digitsWithin k n ≡ digitsWithin m n
@@ -49,11 +50,6 @@ unfolding valueFrom
 value-last x [] b = refl
 value-last x (a ∷ s) b = value-last (10 * x + (a - 48)) s b
 
-digits-last : (s : List ℕ) (b : ℕ) → digits (s ++ b ∷ []) ≡ (digits s && digits (b ∷ []))
-unfolding digits
-digits-last [] b = refl
-digits-last (a ∷ s) b = rw (digits-last s b) (sym (and-assoc (leb 48 a && leb a 57) (digits s) _))
-
 one-is-digit : (n : ℕ) → n < 10 → digits ((48 + n) ∷ []) ≡ true
 one-is-digit n h = digit-more (48 + n) [] (omega arith) (omega arith) ∙ digits-nil
 
@@ -71,7 +67,7 @@ value-of-digits = by-digits (λ n. valueOf (digitsOf n) ≡ n)
 pub digits-of-digits : (n : ℕ) → digits (digitsOf n) ≡ true
 digits-of-digits = by-digits (λ n. digits (digitsOf n) ≡ true)
     (λ n h. rw (one-digit n h) (one-is-digit n h))
-    (λ n h i. rw (more-digits n h, digits-last, i) (one-is-digit (n % 10) (omega arith)))
+    (λ n h i. rw (more-digits n h, digits-append, i) (one-is-digit (n % 10) (omega arith)))
 
 pub first-not-zero : (n : ℕ) → 0 < n → 48 < getD (digitsOf n) 0 0
 first-not-zero = by-digits (λ n. 0 < n → 48 < getD (digitsOf n) 0 0)
@@ -151,3 +147,8 @@ short-number s e =
     let p = number-parts s e in
     let k : length (digitsOf (valueOf s)) ≤ longestNumber = few-digits 9 (valueOf s) (omega (arith, p .2)) in
     rw (number-back s e) at k
+
+pub too-long : (s : List ℕ) → longestNumber < length s → isNumber s ≡ false
+too-long s h = by-test (isNumber s)
+    (λ e. absurd (omega (arith, short-number s e)))
+    (λ e. e)

@@ -16,6 +16,10 @@ by-lt a b f g = by-test (ltb a b) (λ e. f (ltb-true a b e)) (λ e. g (ltb-false
 pub true-false : {C : Type 0} → _≡_ {A = Bool} true false → C
 true-false e = let z : _≡_ {A = ℕ} 0 1 = cc in absurd (omega arith)
 
+-- of two constructors of a type that are taken for one
+pub impossible {ℓ} : {C : Type ℓ} → _≡_ {A = ℕ} 0 1 → C
+impossible z = absurd (omega arith)
+
 -- both of two tests
 pub both-true : (s t : Bool) → (s && t) ≡ true → (s ≡ true) × (t ≡ true)
 both-true true t e = (refl, e)

@@ -1,7 +1,7 @@
 -- Numbers: when a field writes one, and the number of a field within a line.
-use mathlib.Core.Path.{_≡_, refl}
-use mathlib.Core.Bool.{true, false, _&&_, and-false}
-use mathlib.Core.List.{List, [], _∷_}
+use mathlib.Core.Path.{_≡_, refl, sym}
+use mathlib.Core.Bool.{true, false, _&&_, and-assoc, and-false}
+use mathlib.Core.List.{List, [], _∷_, _++_}
 use Prim.Native.Nat.{ℕ, _+_, _-_, _*_, _≤_, _<_}
 use native.Mathlib.Omega.{arith}
 use borrow.Author.Tests.{lt-leb, le-leb, leb-true, eq-eqb, ne-eqb, eqb-true}
@@ -56,6 +56,11 @@ pub above-digits : (b : ℕ) (s : List ℕ) → 57 < b → digits (b ∷ s) ≡ 
 unfolding digits
 above-digits b s h = simp (lt-leb b 57 h, and-false)
 
+pub digits-append : (s t : List ℕ) → digits (s ++ t) ≡ (digits s && digits t)
+unfolding digits
+digits-append [] t = refl
+digits-append (b ∷ s) t = rw (digits-append s t) (sym (and-assoc (leb 48 b && leb b 57) (digits s) (digits t)))
+
 -- the first byte of digits is one, and so are the others
 pub digit-parts : (b : ℕ) (s : List ℕ) → digits (b ∷ s) ≡ true → (48 ≤ b) × (b ≤ 57) × (digits s ≡ true)
 unfolding digits
@@ -80,10 +85,6 @@ value-nil x = refl
 pub value-cons : (x b : ℕ) (s : List ℕ) → valueFrom x (b ∷ s) ≡ valueFrom (10 * x + (b - 48)) s
 unfolding valueFrom
 value-cons x b s = refl
-
-pub value-ge : (x : ℕ) (s : List ℕ) → x ≤ valueFrom x s
-value-ge x [] = omega (arith, value-nil x)
-value-ge x (b ∷ s) = omega (arith, value-cons x b s, value-ge (10 * x + (b - 48)) s)
 
 -- ---- a field that writes a number, or none
 module _ (s : List ℕ) where

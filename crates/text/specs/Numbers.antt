@@ -1,10 +1,11 @@
 -- The numbers that fields write: decimal digits without a leading zero, up to the greatest number of 32 bits.
 use mathlib.Core.Bool.{Bool, true, false, _&&_, not, cond}
 use mathlib.Core.List.{List, [], _∷_}
-use Prim.Native.Nat.{ℕ, _+_, _-_, _*_}
+use Prim.Native.Nat.{ℕ, suc, _+_, _-_, _*_}
 use lib.Dec.{leb, eqb}
-use lib.ListN.{drop}
+use lib.ListN.{take, drop}
 use Rattle.text.specs.declared.Number.{Number}
+use Rattle.text.specs.declared.Run.{Run}
 use Rattle.text.specs.declared.Scanned.{Scanned}
 use Rattle.text.specs.Bytes.{byteAt}
 use Rattle.text.specs.Fields.{firstField}
@@ -54,3 +55,17 @@ endingAt e Number.Unreadable = Scanned.Unreadable
 -- the number of the field that begins at a place of a line
 unfoldable pub scannedAt : List ℕ → ℕ → Scanned
 scannedAt l from = endingAt (from + byteAt 9 (drop from l)) (numberOf (firstField (drop from l)))
+
+-- ---- a number within any text
+-- how many decimal digits stand in front
+unfoldable pub digitsIn : List ℕ → ℕ
+digitsIn [] = 0
+digitsIn (b ∷ bs) = cond (leb 48 b && leb b 57) (suc (digitsIn bs)) 0
+
+-- the digits in front
+abbrev pub leading : List ℕ → List ℕ
+leading s = take (digitsIn s) s
+
+-- the digits that begin at a place
+unfoldable pub runAt : List ℕ → ℕ → Run
+runAt l from = record { number = numberOf (leading (drop from l)); end = from + digitsIn (drop from l) }

@@ -1,7 +1,7 @@
 use mathlib.Core.Path.{_∙_, sym, ap}
 use Rattle.state.specs.Model.{gateway}
 use Rattle.state.specs.declared.Reply.the-variants.{Accepted, Refused}
-use Rattle.tables.specs.declared.Counted.the-variants as counted
+use Rattle.state.specs.declared.Counted.the-variants as counted
 use Rattle.tables.proofs.Answers.{count-by}
 use borrow.Author.Needs.{needs}
 use Rattle.rest.proofs.count.Statement.{statement}
@@ -20,7 +20,7 @@ enum-known-checked : tie.Need-enum-known-checked
 enum-known-checked c = search needs
 
 returns : tie.Need-returns
-returns c = ap counted.Keys (c .count-keys .ensures) ∙ sym (count-by gateway (c .before .before .before .before .before .args .cells .now) Accepted (sym
+returns c = ap counted.Count (c .count-keys .ensures) ∙ sym (count-by gateway (c .before .before .before .before .before .args .cells .now) Accepted (sym
     (c .before .before .before .check .ensures) ∙ c .before .enum-told .given .1))
 
 returns-2 : tie.Need-returns-2

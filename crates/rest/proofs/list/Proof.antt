@@ -1,7 +1,7 @@
 use mathlib.Core.Path.{_∙_, refl, sym}
 use Rattle.state.specs.Model.{gateway}
 use Rattle.state.specs.declared.Reply.the-variants.{Refused}
-use Rattle.tables.specs.declared.Counted.the-variants as counted
+use Rattle.state.specs.declared.Counted.the-variants as counted
 use Rattle.tables.proofs.Answers.{listed-as, list-by, short, full}
 use borrow.Author.Needs.{needs}
 use Rattle.rest.proofs.list.Statement.{statement}

@@ -1,6 +1,6 @@
 use mathlib.Core.Path.{_∙_, refl, sym}
 use Rattle.state.specs.Model.{gateway}
-use Rattle.tables.specs.declared.Counted.the-variants as counted
+use Rattle.state.specs.declared.Counted.the-variants as counted
 use Rattle.tables.proofs.Answers.{front, front-as, front-length}
 use borrow.Author.Needs.{needs}
 use Rattle.rest.proofs.list_front.Statement.{statement}

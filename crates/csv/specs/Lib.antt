@@ -1,0 +1,3 @@
+pub mod Grammar
+pub mod Promise
+pub mod Reader

@@ -1,0 +1,9 @@
+pub mod Dealing
+pub mod Examples
+pub mod Fronts
+pub mod Over
+pub mod Places
+pub mod Reading
+pub mod Saying
+pub mod Theorem
+pub mod Turns

@@ -1,0 +1,4 @@
+pub mod Examples
+pub mod Places
+pub mod Promise
+pub mod Till
