@@ -9,7 +9,7 @@ use conformance::shifts::{closed, dealt, Entry};
 use conformance::{check, close, count, list, order, order_line, reference_open, reference_run, turn, Call, Calls, Orders, REFUSED, WORDS};
 use reference::generate::{all_lists, fill, later, orders, overwrite, price, returned, spoil, table, torn, Rng, WRONG_PRICES};
 use reference::layout::{content, label_of, layout, Prices, MAX_PRICE};
-use reference::listing;
+use reference::listing::{self, GROUP};
 use reference::phase::{Activity, Order, Phase, PUT_IN, TAKE_OUT};
 use reference::refusal;
 
@@ -42,6 +42,82 @@ fn check_count_and_list() {
         let labels = table.iter().filter(|&&x| x != 0).count();
         for room in [0, labels.saturating_sub(1), labels, labels + 1, cells + 5] {
             same_at_rest(&table, room);
+        }
+    }
+}
+
+/// A table with a label in its home in each of the cells that are told: sound, unless all are.
+fn at_home(cells: usize, taken: impl Fn(usize) -> bool) -> Vec<u64> {
+    let label = |at| if at == 0 { cells as u32 } else { at as u32 };
+    (0..cells).map(|at| if taken(at) { content(label(at), 1 + at as u32) } else { 0 }).collect()
+}
+
+/// The list of a sound table, with so many places behind: each group's cells stand behind as many as there are ones in the earlier words, and what stood
+/// behind them all still does. With a place too few nothing is written.
+fn listed_by_groups(table: &[u64], behind: usize) {
+    let words: Vec<u64> = (0..table.len().div_ceil(GROUP)).map(|group| listing::taken_word(table, group)).collect();
+    let labels: usize = words.iter().map(|word| word.count_ones() as usize).sum();
+    let mark = |place: usize| MARK + place as u64;
+    let mut lent: Vec<u64> = (0..labels + behind).map(mark).collect();
+    assert_eq!(list(table, &mut lent), Ok(labels), "{table:?}");
+    let mut place = 0;
+    for (group, &word) in words.iter().enumerate() {
+        for bit in (0..GROUP).filter(|bit| word >> bit & 1 == 1) {
+            assert_eq!(lent[place], table[GROUP * group + bit], "cell {bit} of group {group} of {table:?}");
+            place += 1;
+        }
+    }
+    assert_eq!(place, labels);
+    assert!((labels..labels + behind).all(|place| lent[place] == mark(place)), "behind the list of {table:?}");
+    if labels > 0 {
+        let mut short: Vec<u64> = (0..labels - 1).map(mark).collect();
+        assert_eq!(list(table, &mut short), Err(refusal::SHORT_LIST));
+        assert!((0..labels - 1).all(|place| short[place] == mark(place)), "a short list of {table:?}");
+    }
+}
+
+/// Every choice of taken cells in small tables.
+#[test]
+fn every_group_of_few_cells() {
+    for cells in 2..=13 {
+        for choice in 0..(1 << cells) - 1 {
+            let table = at_home(cells, |at| choice >> at & 1 == 1);
+            listed_by_groups(&table, choice % 4);
+            same_at_rest(&table, cells);
+        }
+    }
+}
+
+/// Tables of one group and more, with last groups of few cells, of nearly 64 and of 64: one cell taken, one cell empty, first and last cells of groups, even and odd
+/// cells, whole groups, and cells at random from few to nearly all.
+#[test]
+fn groups_one_after_the_other() {
+    let mut random = Rng::new(77);
+    for cells in [2, 3, 31, 62, 63, 64, 65, 66, 96, 126, 127, 128, 129, 130, 191, 192, 193, 256, 1000, 4096, 8191, 8192] {
+        let mut tables: Vec<Vec<u64>> = vec![
+            at_home(cells, |at| at % GROUP == 0),
+            at_home(cells, |at| at % GROUP == GROUP - 1),
+            at_home(cells, |at| at % GROUP != 0),
+            at_home(cells, |at| at % GROUP != GROUP - 1),
+            at_home(cells, |at| at % 2 == 0),
+            at_home(cells, |at| at % 2 == 1),
+            at_home(cells, |at| at / GROUP % 2 == 0 && at > 0),
+            at_home(cells, |at| at / GROUP % 2 == 1),
+            at_home(cells, |_| false),
+        ];
+        for at in [0, 1, 31, 32, 62, 63, 64, 65, 127, 128, cells / 2, cells - 2, cells - 1].into_iter().filter(|&at| at < cells) {
+            tables.push(at_home(cells, |cell| cell == at));
+            tables.push(at_home(cells, |cell| cell != at));
+        }
+        for tenths in 1..10 {
+            let taken: Vec<bool> = (0..cells).map(|at| at > 0 && random.below(10) < tenths).collect();
+            tables.push(at_home(cells, |at| taken[at]));
+        }
+        for table in tables.iter().filter(|table| table.contains(&0)) {
+            for behind in [0, 1, 63, 64, 65] {
+                listed_by_groups(table, behind);
+            }
+            same_at_rest(table, cells);
         }
     }
 }

@@ -26,9 +26,9 @@ use Rattle.flaws.proofs.Theorem.{theorem as flaws}
 use Rattle.orders.specs.Orders.{lineFault, linesFault}
 use Rattle.orders.specs.declared.Order.{Order}
 use Rattle.words.specs.Promise.{keysBefore}
-use Rattle.words.specs.Words.{placeOf, countOf}
+use Rattle.words.specs.Words.{filled, placeOf, countOf}
 use Rattle.words.proofs.Places.{count-occupied}
-use Rattle.words.proofs.Theorem.{theorem as listings}
+use Rattle.words.proofs.Theorem.{theorem as listings, steps as group-steps}
 use Rattle.activities.specs.declared.Activity.the-variants.{Idle}
 use Rattle.rule.specs.declared.Place.{Place}
 use Rattle.rule.specs.declared.Place.the-variants.{At}
@@ -51,8 +51,10 @@ use Rattle.protocol.specs.IsWellFormed.{isWellFormed}
 use Rattle.protocol.specs.Promise.{Soundness}
 use Rattle.protocol.specs.WellFormed.{Size}
 use Rattle.protocol.proofs.Soundness.{sounds}
-use Rattle.state.specs.Counts.{countNumber}
-use Rattle.tables.specs.Calls.{checkCall, listCall, listAfter, listFront}
+use Rattle.state.specs.Counts.{countNumber, countValue}
+use Rattle.state.specs.declared.Counted.{Counted}
+use Rattle.state.specs.declared.Counted.the-variants as counted
+use Rattle.tables.specs.Calls.{checkCall, countCall, listCall, listAfter, listFront}
 use Rattle.tables.proofs.Theorem.{theorem as tables}
 use Rattle.history.specs.History.{turn, worked, call, run, turnReplies, opening, after}
 use Rattle.history.specs.Promise.{entriesAfter, Alike, Claim}
@@ -480,10 +482,31 @@ second-before = (refl, refl)
 second-places : (placeOf twoGroups 1 ≡ 3) × (placeOf twoGroups 2 ≡ 4)
 second-places = (listings twoGroups .place 1 ∙ second-before .0, listings twoGroups .place 2 ∙ second-before .1)
 
+second-only : (g : ℕ) → In g (1 ∷ 1 ∷ []) → placeOf twoGroups g ≤ 2 → 2 < placeOf twoGroups (suc g) → ⊥
+second-only g (inl e) l r = let h : placeOf twoGroups 1 ≤ 2 = rw e at l in omega (arith, second-places .0)
+second-only g (inr (inl e)) l r = let h : placeOf twoGroups 1 ≤ 2 = rw e at l in omega (arith, second-places .0)
+second-only g (inr (inr i)) l r = absurd i
+
+four-counted : countValue (countCall gateway four) ≡ 4
+four-counted = tables gateway gateway-proper four [] .count-true (five-cells, four-in-words) ∙ four-size
+
+-- a refused count has the value 0
+gapped-counted : countValue (countCall gateway gapped) ≡ 0
+gapped-counted = go (countCall gateway gapped) (tables gateway gateway-proper gapped [] .count-refused ∙ check-gap)
+  where
+    go : (a : Counted) → countNumber a ≡ 17 → countValue a ≡ 0
+    go (counted.Count c) e = absurd (omega arith)
+    go (counted.Refused why) e = refl
+
+four-before : keysBefore four 5 ≡ 4
+unfolding count
+four-before = refl
+
 -- ---- all of them
 pub corollaries : Corollaries
 corollaries =
     let lists = tables gateway gateway-proper four sixPlaces in
+    let step = group-steps four sixPlaces in
     record {
       take-out =
           one-table gateway gateway gateway-proper gateway-proper 2 2 1 four [] [] (λ x. refl) (four-opens .0) (four-opens .1) together inSequence take-out-keys
@@ -555,7 +578,7 @@ corollaries =
       refuses-gap = check-gap;
       refuses-full = check-four .0;
       refuses-price = check-four .1;
-      count = tables gateway gateway-proper four [] .count-true (five-cells, four-in-words) ∙ four-size;
+      count = four-counted;
       intact-passes = flaws .kinds (modulo 5) disordered .intact .1 disordered-intact;
       gap-passes = flaws .kinds (modulo 5) gapped .gapped .1 gapped-is;
       disorder-passes = flaws .kinds (modulo 5) disordered .disordered .1 disordered-is;
@@ -578,7 +601,23 @@ corollaries =
       front-long = lists .front-long list-accepted ∙ four-size;
       short = list-short;
       unlisted = tables gateway gateway-proper four (70 ∷ 71 ∷ 72 ∷ []) .unlisted (λ z. let e = list-short in omega arith);
+      by-count = lists .list-counts (omega (arith, four-counted));
+      short-by-count = tables gateway gateway-proper four [] .list-short (omega (arith, four-counted));
+      refused-by-count = tables gateway gateway-proper gapped [] .list-counts (omega (arith, gapped-counted));
+      step-writes = ap (λ (i : ℕ). getD (filled four sixPlaces) i 0) (sym two-before) ∙ step .writes 3 (apart 13 0 tt);
+      step-keeps = step .keeps 4 (omega (arith, four-before));
+      step-long = step .long (omega (arith, four-before));
+      step-number = step .number ∙ four-before;
+      step-ones = step .by-word ∙ four-before;
+      in-place = listings twoGroups .in-place 1 sixPlaces (omega (arith, second-places .1));
+      one-pass = listings twoGroups .one-pass 1 sixPlaces;
+      whole-pass = listings twoGroups .whole sixPlaces;
       any-order = listings twoGroups .any-order (1 ∷ 0 ∷ 1 ∷ []) sixPlaces enough each-group;
       group-fills = listings twoGroups .group-fills 1 3 sixPlaces (omega arith) (omega (arith, second-places .0)) (omega (arith, second-places .1));
       group-keeps = listings twoGroups .group-keeps 1 2 sixPlaces (λ l _. omega (arith, second-places .0));
+      groups-fill =
+          listings twoGroups .groups-fill (1 ∷ 1 ∷ []) sixPlaces 1 3 (omega arith) (inl refl) (omega (arith, second-places .0)) (omega (arith, second-places .1));
+      groups-keep = listings twoGroups .groups-keep (1 ∷ 1 ∷ []) sixPlaces 2 second-only;
+      groups-long = listings twoGroups .groups-long (1 ∷ 1 ∷ []) sixPlaces;
+      last-group = listings twoGroups .no-more 1;
     }

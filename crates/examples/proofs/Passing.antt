@@ -24,6 +24,7 @@ use Rattle.flaws.proofs.Theorem.{theorem as flaws}
 use Rattle.orders.specs.Orders.{linesFault}
 use Rattle.orders.specs.declared.Order.{Order}
 use Rattle.words.specs.Words.{occupied, entriesOf, filled, group, wordOf, countOf}
+use Rattle.words.proofs.Pass.{one-pass}
 use Rattle.words.proofs.Places.{place-is, count-occupied}
 use Rattle.activities.specs.declared.Activity.{Activity}
 use Rattle.activities.specs.declared.Activity.the-variants.{Idle, Reading, Replacing, WalkingBack, SeekingForward, SeekingBack}
@@ -54,7 +55,7 @@ use Rattle.tables.specs.Calls.{tableBars, checkCall, listBars, listCall}
 use Rattle.history.specs.History.{after}
 use Rattle.history.specs.History as history
 use Rattle.numbered.specs.Lists.{answersOf}
-use Rattle.examples.specs.Forms.{Example, laid, unsound, word, counting, listing, opening, ordering, empties, marked, calling}
+use Rattle.examples.specs.Forms.{Example, laid, unsound, word, stepping, passing, counting, listing, opening, ordering, empties, marked, calling}
 use Rattle.examples.specs.Forms.{tracing, refusing, bound, closing}
 use Rattle.examples.specs.Forms.{Told, emptyCells, handedBack, alone, callsOf, answersTold, Spoilt, Unspoilt, Says, AllSay}
 use Rattle.examples.proofs.Sound.{isSound, sound-says}
@@ -370,6 +371,8 @@ unfoldable pub passes : Example → Bool
 passes (laid n es t) = sameTable (pricedLayout n label (modulo n) es) t
 passes (unsound t) = not (isSound t)
 passes (word t g w place) = eqb (wordOf (group t g)) w && eqb (occupied (take (64 * g) t)) place
+passes (stepping cells out c u) = eqb (occupied cells) c && sameTable (filled cells out) u
+passes (passing t out g u) = sameTable (filled (take (64 * g) t) out) u
 passes (counting t r c) = let a = counts t [] (occupied t) in sameTable (replyNumber (checkCall gateway t) ∷ countNumber a ∷ countValue a ∷ []) (r ∷ r ∷ c ∷ [])
 passes (listing t out r c u front) =
     let a = lists t out (occupied t) in
@@ -520,6 +523,11 @@ passes-says (word t g w place) p =
     let one = eqb (wordOf (group t g)) w in
     let two = eqb (occupied (take (64 * g) t)) place in
     (eqb→eq (wordOf (group t g)) w (and-left one two p), place-is t g ∙ eqb→eq (occupied (take (64 * g) t)) place (and-right one two p))
+passes-says (stepping cells out c u) p =
+    let one = eqb (occupied cells) c in
+    let two = sameTable (filled cells out) u in
+    (eqb→eq (occupied cells) c (and-left one two p), same-table (filled cells out) u (and-right one two p))
+passes-says (passing t out g u) p = one-pass t g out ∙ same-table (filled (take (64 * g) t) out) u p
 passes-says (counting t r c) p = counting-says t r c p
 passes-says (listing t out r c u front) p = listing-says t out r c u front p
 passes-says (opening M k m t os r p) h = let o = openCall M k m t os in replied-says (replyNumber (o .reply)) r (o .phase) p h

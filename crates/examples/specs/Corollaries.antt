@@ -5,6 +5,7 @@ use mathlib.Core.Logic.{_≢_, _⊎_}
 use mathlib.Core.Bool.{true, false}
 use mathlib.Core.List.{List, [], _∷_}
 use Prim.Native.Nat.{ℕ, zero, suc, _≤_, _<_}
+use lib.Count as digits
 use lib.Dec.{T, eqb}
 use lib.ListN.{length, getD, set, replicate}
 use Rattle.ring.specs.Counting.{count}
@@ -17,7 +18,7 @@ use Rattle.flaws.specs.Flaws.{isIntact, meetsEmpty, meetsKey}
 use Rattle.flaws.specs.Promise.{Intact, Damaged, Breaks, Gapped, Disordered, FirstOnPath}
 use Rattle.orders.specs.Orders.{orderWith, blank}
 use Rattle.orders.specs.declared.Order.{Order}
-use Rattle.words.specs.Words.{groupListed, groupsListed}
+use Rattle.words.specs.Words.{occupied, filled, group, wordOf, groupListed, groupsListed, stepped, passed}
 use Rattle.activities.specs.declared.Activity.the-variants.{Idle, Reading, Replacing, WalkingBack}
 use Rattle.rule.specs.declared.Answer.the-variants.{WentOn, Finished, Price, No}
 use Rattle.rule.specs.Events.{Event, Said}
@@ -310,11 +311,31 @@ pub record Corollaries : Type 0 where
   pub front-long : length (listFront gateway four sixPlaces) ≡ 4
   pub short : countNumber (listCall gateway four (70 ∷ 71 ∷ 72 ∷ [])) ≡ 12
   pub unlisted : listAfter gateway four (70 ∷ 71 ∷ 72 ∷ []) ≡ 70 ∷ 71 ∷ 72 ∷ []
+  -- the length check is by the count that count gives
+  pub by-count : listCall gateway four sixPlaces ≡ countCall gateway four
+  pub short-by-count : countNumber (listCall gateway four []) ≡ 12
+  pub refused-by-count : listCall gateway gapped [] ≡ countCall gateway gapped
+  -- the step for one group writes its entries at the front of what it is lent, keeps the places behind and gives their number
+  pub step-writes : getD (filled four sixPlaces) 2 0 ≡ one 13
+  pub step-keeps : getD (filled four sixPlaces) 4 0 ≡ 74
+  pub step-long : length (filled four sixPlaces) ≡ 6
+  pub step-number : occupied four ≡ 4
+  pub step-ones : digits.ones (wordOf four) ≡ 4
+  -- lent the list from the group's place on, it lists the group in its place; the steps for the groups one after the other list them all
+  pub in-place : stepped twoGroups 1 sixPlaces ≡ groupListed twoGroups 1 sixPlaces
+  pub one-pass : passed twoGroups 1 sixPlaces ≡ one 1 ∷ one 3 ∷ one 63 ∷ 73 ∷ 74 ∷ 75 ∷ []
+  pub whole-pass : passed twoGroups 2 sixPlaces ≡ one 1 ∷ one 3 ∷ one 63 ∷ one 131 ∷ 74 ∷ 75 ∷ []
   -- groups listed in any order give the same list
   pub any-order : groupsListed twoGroups (1 ∷ 0 ∷ 1 ∷ []) sixPlaces ≡ one 1 ∷ one 3 ∷ one 63 ∷ one 131 ∷ 74 ∷ 75 ∷ []
   -- a group listed fills its own places and no others
   pub group-fills : getD (groupListed twoGroups 1 sixPlaces) 3 0 ≡ one 131
   pub group-keeps : getD (groupListed twoGroups 1 sixPlaces) 2 0 ≡ 72
+  -- and so do several, here one twice; the places of the others are kept
+  pub groups-fill : getD (groupsListed twoGroups (1 ∷ 1 ∷ []) sixPlaces) 3 0 ≡ one 131
+  pub groups-keep : getD (groupsListed twoGroups (1 ∷ 1 ∷ []) sixPlaces) 2 0 ≡ 72
+  pub groups-long : length (groupsListed twoGroups (1 ∷ 1 ∷ []) sixPlaces) ≡ 6
+  -- the last group has the cells that are left
+  pub last-group : length (group twoGroups 1) ≡ 2
 
 -- ---- and of single calls
 pub record CallCorollaries : Type 0 where

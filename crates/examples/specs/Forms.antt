@@ -9,7 +9,7 @@ use Rattle.layout.specs.Home.{modulo}
 use Rattle.prices.specs.Contents.{label, SoundTable}
 use Rattle.prices.specs.Priced.{pricedLayout}
 use Rattle.orders.specs.declared.Order.{Order}
-use Rattle.words.specs.Words.{group, wordOf, placeOf}
+use Rattle.words.specs.Words.{occupied, filled, group, wordOf, placeOf, passed}
 use Rattle.activities.specs.declared.Activity.{Activity}
 use Rattle.activities.specs.declared.Activity.the-variants as activity
 use Rattle.activities.specs.declared.Worker.{Worker}
@@ -102,6 +102,10 @@ pub data Example : Type 0 where
   unsound : (table : List ℕ) → Example
   -- the occupancy word of group g, and where the group's keys start in the list
   word : (table : List ℕ) (g w place : ℕ) → Example
+  -- the step for a group of these cells, lent this list, gives the number c and leaves this list; the steps for groups 0 to g - 1 of a table leave this
+  -- list
+  stepping : (cells out : List ℕ) (c : ℕ) (after : List ℕ) → Example
+  passing : (table out : List ℕ) (g : ℕ) (after : List ℕ) → Example
   -- check and count answer with this number, and the count gives c
   counting : (table : List ℕ) (number c : ℕ) → Example
   -- listing into a lent list answers with this number and count, and leaves this list and this front part
@@ -151,6 +155,8 @@ abbrev pub Says : Example → Type 0
 Says (laid n es t) = pricedLayout n label (modulo n) es ≡ t
 Says (unsound t) = SoundTable (length t) (modulo (length t)) t → ⊥
 Says (word t g w place) = (wordOf (group t g) ≡ w) × (placeOf t g ≡ place)
+Says (stepping cells out c u) = (occupied cells ≡ c) × (filled cells out ≡ u)
+Says (passing t out g u) = passed t g out ≡ u
 Says (counting t r c) = (replyNumber (checkCall gateway t) ≡ r) × (countNumber (countCall gateway t) ≡ r) × (countValue (countCall gateway t) ≡ c)
 Says (listing t out r c u front) =
     (countNumber (listCall gateway t out) ≡ r)

@@ -7,7 +7,7 @@ use Rattle.prices.specs.Contents.{content}
 use Rattle.activities.specs.declared.Activity.the-variants.{Reading}
 use Rattle.rule.specs.Schedules.{one, ones}
 use Rattle.state.specs.Model.{gateway}
-use Rattle.examples.specs.Forms.{Example, word, counting, listing, opening, empties, refusing, phase, allIdle, handedBack, alone}
+use Rattle.examples.specs.Forms.{Example, word, stepping, passing, counting, listing, opening, empties, refusing, phase, allIdle, handedBack, alone}
 
 -- an accepted opening, without orders
 abbrev pub opens : (k m : ℕ) (table : List ℕ) → Example
@@ -68,6 +68,17 @@ unlisted t out r = listing t out r 0 out []
 abbrev pub twoGroups : List ℕ
 twoGroups = ones (0 ∷ 1 ∷ 0 ∷ 3 ∷ []) ++ replicate 59 0 ++ ones (63 ∷ 0 ∷ 131 ∷ [])
 
+-- 130 cells: labels in the cells 60 to 67 and 127 to 129, each in its home
+abbrev pub threeGroups : List ℕ
+threeGroups =
+    replicate 60 0
+    ++ ones (60 ∷ 61 ∷ 62 ∷ 63 ∷ 64 ∷ 65 ∷ 66 ∷ 67 ∷ [])
+    ++ replicate 59 0
+    ++ ones (127 ∷ 128 ∷ 129 ∷ [])
+
+abbrev pub thirteenPlaces : List ℕ
+thirteenPlaces = 70 ∷ 71 ∷ 72 ∷ 73 ∷ 74 ∷ 75 ∷ 76 ∷ 77 ∷ 78 ∷ 79 ∷ 80 ∷ 81 ∷ 82 ∷ []
+
 unfoldable pub listings : List Example
 listings =
     lists (ones (4 ∷ 3 ∷ 0 ∷ 13 ∷ 8 ∷ [])) (70 ∷ 71 ∷ 72 ∷ 73 ∷ 74 ∷ 75 ∷ []) (one 4 ∷ one 3 ∷ one 13 ∷ one 8 ∷ 74 ∷ 75 ∷ []) (ones (4 ∷ 3 ∷ 13 ∷ 8 ∷ []))
@@ -86,6 +97,10 @@ listings =
     -- two groups
     ∷ lists twoGroups (70 ∷ 71 ∷ 72 ∷ 73 ∷ 74 ∷ []) (one 1 ∷ one 3 ∷ one 63 ∷ one 131 ∷ 74 ∷ []) (ones (1 ∷ 3 ∷ 63 ∷ 131 ∷ []))
     ∷ unlisted twoGroups (70 ∷ 71 ∷ 72 ∷ []) 12
+    -- three groups
+    ∷ lists threeGroups thirteenPlaces
+    (ones (60 ∷ 61 ∷ 62 ∷ 63 ∷ 64 ∷ 65 ∷ 66 ∷ 67 ∷ 127 ∷ 128 ∷ 129 ∷ []) ++ 81 ∷ 82 ∷ [])
+    (ones (60 ∷ 61 ∷ 62 ∷ 63 ∷ 64 ∷ 65 ∷ 66 ∷ 67 ∷ 127 ∷ 128 ∷ 129 ∷ []))
     -- check and count
     ∷ counting (ones (4 ∷ 3 ∷ 0 ∷ 13 ∷ 8 ∷ [])) 0 4
     ∷ counting (ones (0 ∷ 7 ∷ [])) 0 1
@@ -99,6 +114,26 @@ listings =
     ∷ word twoGroups 0 9223372036854775818 0
     ∷ word twoGroups 1 2 3
     ∷ word twoGroups 2 0 4
+    ∷ word threeGroups 0 17293822569102704640 0
+    ∷ word threeGroups 1 9223372036854775823 4
+    ∷ word threeGroups 2 3 9
+    ∷ word threeGroups 3 0 11
+    -- one group: in cell order, with places behind and with just enough; no labels, no cells, no places; the first cell and the last alone; a cell with
+    -- label 0 is passed over
+    ∷ stepping (ones (4 ∷ 3 ∷ 0 ∷ 13 ∷ 8 ∷ [])) (70 ∷ 71 ∷ 72 ∷ 73 ∷ 74 ∷ 75 ∷ []) 4 (one 4 ∷ one 3 ∷ one 13 ∷ one 8 ∷ 74 ∷ 75 ∷ [])
+    ∷ stepping (ones (13 ∷ 0 ∷ 0 ∷ 8 ∷ 0 ∷ [])) (70 ∷ 71 ∷ []) 2 (one 13 ∷ one 8 ∷ [])
+    ∷ stepping (ones (0 ∷ 0 ∷ 0 ∷ [])) (70 ∷ 71 ∷ []) 0 (70 ∷ 71 ∷ [])
+    ∷ stepping [] (70 ∷ []) 0 (70 ∷ [])
+    ∷ stepping (ones (0 ∷ 0 ∷ [])) [] 0 []
+    ∷ stepping (ones (7 ∷ 0 ∷ [])) (70 ∷ 71 ∷ []) 1 (one 7 ∷ 71 ∷ [])
+    ∷ stepping (replicate 63 0 ++ ones (63 ∷ [])) (70 ∷ 71 ∷ []) 1 (one 63 ∷ 71 ∷ [])
+    ∷ stepping (content 4 9 ∷ 5 ∷ content 3 0 ∷ 4294967295 ∷ []) (70 ∷ 71 ∷ 72 ∷ []) 2 (content 4 9 ∷ content 3 0 ∷ 72 ∷ [])
+    -- the groups one after the other, each behind the earlier entries; a step past the last group changes nothing
+    ∷ passing twoGroups (70 ∷ 71 ∷ 72 ∷ 73 ∷ 74 ∷ []) 0 (70 ∷ 71 ∷ 72 ∷ 73 ∷ 74 ∷ [])
+    ∷ passing twoGroups (70 ∷ 71 ∷ 72 ∷ 73 ∷ 74 ∷ []) 1 (one 1 ∷ one 3 ∷ one 63 ∷ 73 ∷ 74 ∷ [])
+    ∷ passing twoGroups (70 ∷ 71 ∷ 72 ∷ 73 ∷ 74 ∷ []) 2 (one 1 ∷ one 3 ∷ one 63 ∷ one 131 ∷ 74 ∷ [])
+    ∷ passing twoGroups (70 ∷ 71 ∷ 72 ∷ 73 ∷ 74 ∷ []) 3 (one 1 ∷ one 3 ∷ one 63 ∷ one 131 ∷ 74 ∷ [])
+    ∷ passing threeGroups thirteenPlaces 2 (ones (60 ∷ 61 ∷ 62 ∷ 63 ∷ 64 ∷ 65 ∷ 66 ∷ 67 ∷ 127 ∷ []) ++ 79 ∷ 80 ∷ 81 ∷ 82 ∷ [])
     -- prices: the least and the greatest one, whole cells listed; a cell with label 0 is not taken, and makes a table unsound, as prices out of range do
     ∷ counting (0 ∷ content 7 1 ∷ []) 0 1
     ∷ counting (0 ∷ content 7 9999999 ∷ []) 0 1

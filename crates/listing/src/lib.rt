@@ -1,17 +1,32 @@
-// The entries of a table in cell order, by occupancy words (document 01: taken words).
+// The entries of a table in cell order, by occupancy words (document 01: taken words): a group is listed as soon as its word is made.
 use prices::PRICES;
 ghost use mathlib.Core.Path.{_≡_};
-ghost use Prim.Native.Nat.{_+_, _≤_, _<_};
+ghost use Prim.Native.Nat.{_≤_, _<_};
 ghost use lib.Count.{ones};
 ghost use lib.ListN.{length};
-ghost use lib.Seq.{sets};
-ghost use Rattle.words.specs.Words.{taken, occupied, entriesOf, filled, groups, group, wordOf, countOf, listedIn};
+ghost use Rattle.words.specs.Words.{taken, occupied, filled, groups, group, wordOf, countOf};
 
-// 1 if the cell holds a label, else 0.
+// 1 if the cell holds a label, else 0. Without a branch, so that several cells are tested at once.
 fn taken_bit(cell: u64) -> u64
     ensures { λ r. ⌜ r ≡ taken cell ⌝ }
 {
-    if cell / PRICES == 0 { 0 } else { 1 }
+    (cell / PRICES + (PRICES - 1)) / PRICES
+}
+
+// The occupancy word of a group of 64 cells: the bits of the even and of the odd cells are gathered side by side.
+fn full_occupancy(group: &[u64]) -> u64
+    requires { ⌜ length (now group) ≡ 64 ⌝ }
+    ensures { λ r. ⌜ r ≡ wordOf (now (group .entry)) ⌝ }
+{
+    let mut i: usize = 64;
+    let mut even: u64 = 0;
+    let mut odd: u64 = 0;
+    while 0 < i {
+        i -= 2;
+        even = 4 * even + taken_bit(group[i]);
+        odd = 4 * odd + taken_bit(group[i + 1]);
+    }
+    even + 2 * odd
 }
 
 // The occupancy word of a group: bit b is 1 if its cell b holds a label.
@@ -20,6 +35,9 @@ fn occupancy(group: &[u64]) -> u64
     ensures { λ r. ⌜ r ≡ wordOf (now (group .entry)) ⌝ }
 {
     let mut i = group.len();
+    if 63 < i {
+        return full_occupancy(group);
+    }
     let mut word: u64 = 0;
     while 0 < i {
         i -= 1;
@@ -70,25 +88,34 @@ pub fn count_keys(cells: &[u64]) -> usize
     count
 }
 
-// Lists the entries of a group from `place` on.
-fn list_group(group: &[u64], place: usize, out: &mut [u64])
-    requires { ⌜ place + occupied (now group) ≤ length (now out) ⌝ }
-    ensures { λ r. ⌜ now (out .exit) ≡ sets (now (out .entry)) place (entriesOf (now (group .entry))) ⌝ }
+// Writes the entries of a group at the front of `out`: one for each one of its word, from the lowest up.
+fn write_entries(group: &[u64], word: u64, out: &mut [u64])
+    requires { ⌜ (word ≡ wordOf (now group)) × (length (now group) ≤ 64) × (occupied (now group) ≤ length (now out)) ⌝ }
+    ensures { λ r. ⌜ now (out .exit) ≡ filled (now (group .entry)) (now (out .entry)) ⌝ }
 {
-    let mut i: usize = 0;
-    let mut at = place;
-    while i < group.len() {
-        let entry = group[i];
-        if entry / PRICES != 0 {
-            out[at] = entry;
-            at += 1;
-        }
-        i += 1;
+    let mut ones = word;
+    let mut at: usize = 0;
+    while ones != 0 {
+        let cell = u64::trailing_zeros(ones) as usize;
+        out[at] = group[cell];
+        at += 1;
+        ones = ones & (ones - 1);
     }
 }
 
-// Lists all groups, each in its place: after as many as there are ones in the earlier words.
-fn fill(cells: &[u64], out: &mut [u64])
+// The step for one group, lent its cells and the list behind the earlier entries, with room for its own: writes these there in cell order, keeps
+// every place behind them, and gives their number.
+fn list_group(group: &[u64], out: &mut [u64]) -> usize
+    requires { ⌜ (length (now group) ≤ 64) × (occupied (now group) ≤ length (now out)) ⌝ }
+    ensures { λ r. ⌜ (r ≡ occupied (now (group .entry))) × (now (out .exit) ≡ filled (now (group .entry)) (now (out .entry))) ⌝ }
+{
+    let word = occupancy(group);
+    write_entries(group, word, out);
+    u64::count_ones(word) as usize
+}
+
+// Lists all groups one after the other, each behind as many entries as there are ones in the earlier words.
+pub fn list_entries(cells: &[u64], out: &mut [u64])
     requires { ⌜ countOf (now cells) ≤ length (now out) ⌝ }
     ensures { λ r. ⌜ now (out .exit) ≡ filled (now (cells .entry)) (now (out .entry)) ⌝ }
 {
@@ -96,21 +123,7 @@ fn fill(cells: &[u64], out: &mut [u64])
     let mut place: usize = 0;
     let mut g: usize = 0;
     while g < groups {
-        let group = group_of(cells, g);
-        list_group(group, place, out);
-        place += ones_of(group);
+        place += list_group(group_of(cells, g), &mut out[place..]);
         g += 1;
     }
-}
-
-// Fills the front of `out` with the entries in cell order if there is room for all; gives their number in any case.
-pub fn list_entries(cells: &[u64], out: &mut [u64]) -> usize
-    ensures { λ r. ⌜ (r ≡ countOf (now (cells .entry))) × (now (out .exit) ≡ listedIn (now (cells .entry)) (now (out .entry))) ⌝ }
-{
-    let count = count_keys(cells);
-    if out.len() < count {
-        return count;
-    }
-    fill(cells, out);
-    count
 }

@@ -30,15 +30,14 @@ pub fn count(cells: &[u64]) -> Counted
 pub fn list(cells: &[u64], out: &mut [u64]) -> Counted
     ensures { λ r. ⌜ (r ≡ listCall gateway (now (cells .entry)) (now (out .entry))) × (now (out .exit) ≡ listAfter gateway (now (cells .entry)) (now (out .entry))) ⌝ }
 {
-    let checked = check(cells);
-    match checked {
-        Reply::Refused(why) => Counted::Refused(why),
-        Reply::Accepted => {
-            let room = out.len();
-            let count = listing::list_entries(cells, out);
-            if room < count {
+    let counted = count(cells);
+    match counted {
+        Counted::Refused(why) => Counted::Refused(why),
+        Counted::Count(count) => {
+            if out.len() < count {
                 Counted::Refused(Refusal::ShortList)
             } else {
+                listing::list_entries(cells, out);
                 Counted::Count(count)
             }
         }

@@ -1,5 +1,5 @@
 -- The calls' answers, by the tests that lead to them.
-use mathlib.Core.Path.{_≡_, sym, ap, _∙_}
+use mathlib.Core.Path.{_≡_, refl, sym, ap, _∙_}
 use mathlib.Core.Bool.{cond}
 use mathlib.Core.List.{List, [], _∷_}
 use Prim.Native.Nat.{ℕ, _≤_, _<_}
@@ -7,12 +7,13 @@ use native.Mathlib.Omega.{arith}
 use lib.Dec.{ltb}
 use lib.ListN.{length, take, drop}
 use lib.Seq.{take-at}
-use borrow.Author.Tests.{lt-ltb, le-ltb, le-leb, lt-leb}
-use Rattle.words.specs.Words.{occupied, entriesOf, filled, countOf, listedIn}
+use borrow.Author.Tests.{lt-ltb, le-ltb}
+use Rattle.words.specs.Words.{occupied, entriesOf, filled, countOf}
 use Rattle.words.proofs.Theorem.{theorem}
 use Rattle.state.specs.Model.{Model}
 use Rattle.state.specs.Refusals.{Bar, if, firstOf}
 use Rattle.state.proofs.Sequence.{orElse, first-append}
+use Rattle.state.specs.declared.Refusal.{Refusal}
 use Rattle.state.specs.declared.Refusal.the-variants.{ShortList}
 use Rattle.state.specs.declared.Reply.{Reply}
 use Rattle.state.specs.declared.Reply.the-variants.{Accepted, Refused}
@@ -21,10 +22,14 @@ use Rattle.state.specs.declared.Counted.the-variants as counted
 use Rattle.state.specs.Counts.{countedBy, ifCounted}
 use Rattle.tables.specs.Calls.{tableBars, checkCall, countCall, listBars, listCall, listAfter, listFront}
 
--- an answer with a count has the sum of the ones
-is-count : (r : Reply) (x c : ℕ) → countedBy x r ≡ counted.Count c → c ≡ x
-is-count Accepted x c e = cc
-is-count (Refused r) x c e = let z : _≡_ {A = ℕ} 0 1 = cc in omega arith
+-- an answer with a count has the sum of the ones, after a check that accepts; one without, its refusal
+is-count : (r : Reply) (x c : ℕ) → countedBy x r ≡ counted.Count c → (r ≡ Accepted) × (c ≡ x)
+is-count Accepted x c e = (refl, cc)
+is-count (Refused r) x c e = let z : _≡_ {A = ℕ} 0 1 = cc in absurd (omega arith)
+
+is-refused : (r : Reply) (x : ℕ) (why : Refusal) → countedBy x r ≡ counted.Refused why → r ≡ Refused why
+is-refused Accepted x why e = let z : _≡_ {A = ℕ} 0 1 = cc in absurd (omega arith)
+is-refused (Refused r) x why e = ap Refused cc
 
 module _ (M : Model) (t : List ℕ) where
   pub count-by : (r : Reply) → checkCall M t ≡ r → countCall M t ≡ countedBy (countOf t) r
@@ -46,22 +51,31 @@ module _ (M : Model) (t : List ℕ) where
         let room : List Bar = if (ltb (length out) (countOf t)) ShortList ∷ [] in
         ap (countedBy (countOf t)) (first-append (tableBars M t) room ∙ ap (λ (a : Reply). orElse a (firstOf room)) e)
 
-    -- ---- after `list_entries` gave the count c and left the list l
-    module _ (ok : checkCall M t ≡ Accepted) (c : ℕ) (l : List ℕ) (count : c ≡ countOf t) (left : l ≡ listedIn t out) where
-      pub short : length out < c → (counted.Refused ShortList ≡ listCall M t out) × (l ≡ listAfter M t out)
-      short h =
-          let h′ : length out < countOf t = omega arith in
-          listed-as (counted.Refused ShortList) (list-by Accepted ok ∙ rw (lt-ltb (length out) (countOf t) h′)) l (left ∙ rw (lt-leb (countOf t) (length out) h′))
+    -- ---- by what count answers
+    pub refused-alike : (why : Refusal) → countCall M t ≡ counted.Refused why → listCall M t out ≡ counted.Refused why
+    refused-alike why e = list-by (Refused why) (is-refused (checkCall M t) (countOf t) why e)
 
-      pub full : c ≤ length out → (counted.Count c ≡ listCall M t out) × (l ≡ listAfter M t out)
+    module _ (c : ℕ) (e : countCall M t ≡ counted.Count c) where
+      counted-by : (checkCall M t ≡ Accepted) × (c ≡ countOf t)
+      counted-by = is-count (checkCall M t) (countOf t) c e
+
+      pub short : length out < c → listCall M t out ≡ counted.Refused ShortList
+      short h =
+          let h′ : length out < countOf t = omega (arith, counted-by .1) in
+          list-by Accepted (counted-by .0) ∙ rw (lt-ltb (length out) (countOf t) h′)
+
+      pub full : c ≤ length out → listCall M t out ≡ counted.Count c
       full h =
-          let h′ : countOf t ≤ length out = omega arith in
-          listed-as (counted.Count c) (list-by Accepted ok ∙ rw (le-ltb (length out) (countOf t) h′, count)) l (left ∙ rw (le-leb (countOf t) (length out) h′))
+          let h′ : countOf t ≤ length out = omega (arith, counted-by .1) in
+          list-by Accepted (counted-by .0) ∙ rw (le-ltb (length out) (countOf t) h′, counted-by .1)
+
+      pub room : c ≤ length out → countOf t ≤ length out
+      room h = omega (arith, counted-by .1)
 
     -- ---- where the list call gave the count c and left the list l, its first c places are the entries
     module _ (c : ℕ) (l : List ℕ) (e : listCall M t out ≡ counted.Count c) (left : l ≡ listAfter M t out) where
       counts : c ≡ length (entriesOf t)
-      counts = is-count (firstOf (listBars M t out)) (countOf t) c e ∙ theorem t .count ∙ sym (theorem t .long)
+      counts = is-count (firstOf (listBars M t out)) (countOf t) c e .1 ∙ theorem t .count ∙ sym (theorem t .long)
 
       pub front : take c l ≡ listFront M t out
       front =

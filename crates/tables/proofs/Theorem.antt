@@ -33,7 +33,7 @@ use Rattle.protocol.proofs.Chain.{Step, casesOf, decides, none-accepted}
 use Rattle.protocol.proofs.Soundness.{sounds}
 use Rattle.tables.specs.Calls.{checkCall, countCall, listBars, listCall, listAfter, listFront}
 use Rattle.tables.specs.Promise.{Usable, checkCases, listCases, AtRest, AtRestPromise}
-use Rattle.tables.proofs.Answers.{list-by}
+use Rattle.tables.proofs.Answers.{list-by, refused-alike, short, full as full-list}
 
 module _ (M : Model) (proper : Proper M) (t : List ℕ) where
   -- a table that the check accepts has as many ones as keys
@@ -111,6 +111,21 @@ module _ (M : Model) (proper : Proper M) (t : List ℕ) where
         behind-check : ((((Unit {0} × Size M (length t)) × Intact t) × (GappedIn M t → ⊥)) × (DisorderedIn M t → ⊥)) → Usable M t
         behind-check ((((_, sized), w), g), d) = usable sized w g d
 
+    -- ---- by what count answers
+    list-counts : countValue (countCall M t) ≤ length out → listCall M t out ≡ countCall M t
+    list-counts = go (countCall M t) refl
+      where
+        go : (a : Counted) → countCall M t ≡ a → countValue a ≤ length out → listCall M t out ≡ a
+        go (counted.Count c) e h = full-list M t out c e h
+        go (counted.Refused why) e h = refused-alike M t out why e
+
+    list-short : length out < countValue (countCall M t) → number ≡ 12
+    list-short = go (countCall M t) refl
+      where
+        go : (a : Counted) → countCall M t ≡ a → length out < countValue a → number ≡ 12
+        go (counted.Count c) e h = ap countNumber (short M t out c e h)
+        go (counted.Refused why) e h = absurd (omega arith)
+
     -- a list call that is not refused
     module _ (z : number ≡ 0) where
       passed : Usable M t × (countOf t ≤ length out)
@@ -160,6 +175,8 @@ module _ (M : Model) (proper : Proper M) (t : List ℕ) where
           count-refused = count-number (countOf t) (checkCall M t);
           count-true = count-true;
           list = list;
+          list-counts = list-counts;
+          list-short = list-short;
           list-true = λ z. ap countValue (full z) ∙ is-size z;
           listed = listed;
           behind = behind;

@@ -37,6 +37,10 @@ module _ (M : Model) (t : List ℕ) where
       pub count-refused : countNumber (countCall M t) ≡ replyNumber (checkCall M t)
       pub count-true : Usable → countValue (countCall M t) ≡ size (labels label t)
       pub list : Decides (countNumber (listCall M t out)) listCases
+      -- the lent list is held against the count that count gives, 0 where it is refused: with as many places list answers as count does, with
+      -- fewer it is refused with 12
+      pub list-counts : countValue (countCall M t) ≤ length out → listCall M t out ≡ countCall M t
+      pub list-short : length out < countValue (countCall M t) → countNumber (listCall M t out) ≡ 12
       -- it says how many keys the table has, lists the cells that hold them, whole and in cell order, and what stands behind those is kept; a refusal
       -- changes nothing
       pub list-true : countNumber (listCall M t out) ≡ 0 → countValue (listCall M t out) ≡ size (labels label t)

@@ -5,7 +5,7 @@ use mathlib.Core.Bool.{true, false}
 use mathlib.Core.List.{List, [], _∷_}
 use Prim.Native.Nat.{ℕ, zero, suc, min, _≤_, _<_}
 use native.Mathlib.Omega.{arith}
-use borrow.Author.Tests.{eqb-true, eqb-false, eq-eqb}
+use borrow.Author.Tests.{eqb-true, eqb-false}
 use lib.Dec.{eqb}
 use lib.ListN.{length, getD, take}
 use lib.Seq.{length-take-le}
@@ -43,11 +43,6 @@ same-true (a ∷ s) [] h = true-false (sym h)
 same-true (a ∷ s) (b ∷ t) h =
     let p = both-true (eqb a b) (same s t) h in
     rw (eqb-true a b (p .0), same-true s t (p .1))
-
-pub same-self : (s : List ℕ) → same s s ≡ true
-unfolding same
-same-self [] = refl
-same-self (a ∷ s) = rw (eq-eqb a a refl, same-self s)
 
 -- ---- the first byte x
 module _ (x : ℕ) where

@@ -12,7 +12,7 @@ use Rattle.text.specs.Bytes.{byteAt}
 use Rattle.text.specs.Fields.{inFront, fieldsOf, firstField, joined}
 use Rattle.text.specs.Promise.{Tabless}
 use Rattle.text.proofs.Test.{by-test}
-use Rattle.text.proofs.Bytes.{byte-nil, byte-here, byte-later, by-byte, byte-take}
+use Rattle.text.proofs.Bytes.{byte-here, byte-later, by-byte, byte-take}
 
 -- ---- cut
 -- without a tab the line is its only field
@@ -41,9 +41,6 @@ first-field l = by-byte 9 l
     (λ h. ([], only-field l h ∙ rw (first-whole l h)))
 
 -- a tab in front ends it, another byte begins it
-pub first-nil : firstField [] ≡ []
-first-nil = rw (byte-nil 9)
-
 pub first-here : (b : ℕ) (l : List ℕ) → eqb b 9 ≡ true → firstField (b ∷ l) ≡ []
 first-here b l e = rw (byte-here 9 b l e)
 

@@ -79,7 +79,7 @@ no-digit b s t e = by-digit b
     (λ z. z t .1)
 
 -- with more bytes than these it is not digits
-pub longer-no-digits : (n : ℕ) (s : List ℕ) → digitsIn s < n → n ≤ length s → digits (take n s) ≡ false
+longer-no-digits : (n : ℕ) (s : List ℕ) → digitsIn s < n → n ≤ length s → digits (take n s) ≡ false
 longer-no-digits zero s h k = absurd (omega arith)
 longer-no-digits (suc n) [] h k = absurd (omega arith)
 longer-no-digits (suc n) (b ∷ s) h k = by-digit b

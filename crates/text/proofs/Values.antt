@@ -52,10 +52,6 @@ pub below-digits : (b : ℕ) (s : List ℕ) → b < 48 → digits (b ∷ s) ≡ 
 unfolding digits
 below-digits b s h = simp (lt-leb 48 b h)
 
-pub above-digits : (b : ℕ) (s : List ℕ) → 57 < b → digits (b ∷ s) ≡ false
-unfolding digits
-above-digits b s h = simp (lt-leb b 57 h, and-false)
-
 pub digits-append : (s t : List ℕ) → digits (s ++ t) ≡ (digits s && digits t)
 unfolding digits
 digits-append [] t = refl
@@ -122,11 +118,6 @@ module _ (l : List ℕ) (from : ℕ) where
   pub scanned-none : isNumber (firstField (drop from l)) ≡ false → Scanned.Unreadable ≡ scannedAt l from
   unfolding scannedAt
   scanned-none e = rw e
-
-  pub scanned-some : (x i : ℕ) → isNumber (firstField (drop from l)) ≡ true → x ≡ valueOf (firstField (drop from l)) → i ≡ from + byteAt 9 (drop from l)
-      → Scanned.Number x i ≡ scannedAt l from
-  unfolding scannedAt
-  scanned-some x i e v k = rw (e, v, k)
 
   pub unreadable-scan : Scanned.Unreadable ≡ scannedAt l from → isNumber (firstField (drop from l)) ≡ false
   unfolding scannedAt

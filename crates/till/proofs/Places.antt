@@ -103,7 +103,7 @@ module _ (text : List ℕ) (at k p : ℕ) (ls : List Line) (e : readFrom text at
       let c : us ≡ ls = cc in
       record { next = next; found = f ∙ rw (a, b); rest = q ∙ ap Reading.lines c }
 
-pub dealt-lines : (m : ℕ) (text : List ℕ) (ls : List Line) (at w : ℕ) → readFrom text at ≡ Reading.lines ls
+dealt-lines : (m : ℕ) (text : List ℕ) (ls : List Line) (at w : ℕ) → readFrom text at ≡ Reading.lines ls
     → dealtFrom m text (record { at = at; worker = w }) (length ls) ≡ dealt m w ls
 unfolding dealtFrom dealtAt dealt
 dealt-lines m text [] at w e = refl

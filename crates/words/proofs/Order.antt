@@ -62,18 +62,21 @@ module _ (t : List ℕ) where
       (by-lt p (placeOf t g) (λ l. group-skips g p o (λ a b. omega arith) ∙ e)
       (λ l. by-lt p (placeOf t (suc g)) (group-writes g p o b l) (λ r. group-skips g p o (λ a b. omega arith) ∙ e)))
 
-  writes : (gs o : List ℕ) (g p : ℕ) → p < length o → In g gs → placeOf t g ≤ p → p < placeOf t (suc g) → getD (groupsListed t gs o) p 0 ≡ getD (entriesOf t) p 0
+  pub writes : (gs o : List ℕ) (g p : ℕ) → p < length o → In g gs → placeOf t g ≤ p → p < placeOf t (suc g) → getD (groupsListed t gs o) p 0 ≡ getD (entriesOf t) p 0
   unfolding groupsListed
   writes [] o g p b i l r = absurd i
   writes (h ∷ gs) o g p b (inl e) l r = keeps gs (groupListed t h o) p (still-inside h o b) (rw e at (group-writes g p o b l r))
   writes (h ∷ gs) o g p b (inr i) l r = writes gs (groupListed t h o) g p (still-inside h o b) i l r
 
-  behind : (gs o : List ℕ) (p : ℕ) → countOf t ≤ p → getD (groupsListed t gs o) p 0 ≡ getD o p 0
+  pub skips : (gs o : List ℕ) (p : ℕ) → ((g : ℕ) → In g gs → placeOf t g ≤ p → p < placeOf t (suc g) → ⊥) → getD (groupsListed t gs o) p 0 ≡ getD o p 0
   unfolding groupsListed
-  behind [] o p h = refl
-  behind (g ∷ gs) o p h = behind gs (groupListed t g o) p h ∙ group-skips g p o (λ _ b. omega (arith, place-le-occupied t (suc g), count-occupied t))
+  skips [] o p h = refl
+  skips (g ∷ gs) o p h = skips gs (groupListed t g o) p (λ k i. h k (inr i)) ∙ group-skips g p o (h g (inl refl))
 
-  length-listed : (gs o : List ℕ) → length (groupsListed t gs o) ≡ length o
+  behind : (gs o : List ℕ) (p : ℕ) → countOf t ≤ p → getD (groupsListed t gs o) p 0 ≡ getD o p 0
+  behind gs o p h = skips gs o p (λ g _ _ b. omega (arith, place-le-occupied t (suc g), count-occupied t))
+
+  pub length-listed : (gs o : List ℕ) → length (groupsListed t gs o) ≡ length o
   unfolding groupsListed
   length-listed [] o = refl
   length-listed (g ∷ gs) o = length-listed gs (groupListed t g o) ∙ length-sets o (placeOf t g) (entriesOf (group t g))

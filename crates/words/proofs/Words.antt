@@ -13,7 +13,6 @@ use lib.Pow.{shr-le, shr-shr}
 use borrow.Author.Tests.{ne-eqb}
 use Rattle.ring.specs.Counting.{bit, count}
 use Rattle.prices.specs.Contents.{label}
-use Rattle.prices.specs.Priced.{labels}
 use Rattle.words.specs.Words.{taken, occupied, entriesOf, wordOf}
 use Rattle.words.specs.Promise.{holdsKey, keysBefore, InCellOrder}
 
@@ -31,10 +30,10 @@ word-lt (x ∷ xs) = rw pow-suc (omega (arith, word-lt xs, taken-le x))
 
 module _ (x : ℕ) (xs : List ℕ) where
   -- the lowest bit, and the word of the cells above it
-  word-low : wordOf (x ∷ xs) % 2 ≡ taken x
+  pub word-low : wordOf (x ∷ xs) % 2 ≡ taken x
   word-low = omega (arith, taken-le x)
 
-  word-high : wordOf (x ∷ xs) / 2 ≡ wordOf xs
+  pub word-high : wordOf (x ∷ xs) / 2 ≡ wordOf xs
   word-high = omega (arith, taken-le x)
 
 pub ones-word : (xs : List ℕ) → ones (wordOf xs) ≡ occupied xs

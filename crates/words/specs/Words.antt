@@ -1,9 +1,9 @@
 -- Occupancy words (document 01: taken words), and the entries of a table in cell order: the contents of the cells that hold a label.
 use mathlib.Core.Bool.{cond}
 use mathlib.Core.List.{List, [], _∷_, _++_}
-use Prim.Native.Nat.{ℕ, _+_, _*_, _/_}
+use Prim.Native.Nat.{ℕ, zero, suc, _+_, _*_, _/_}
 use lib.Count.{ones}
-use lib.Dec.{leb, eqb}
+use lib.Dec.{eqb}
 use lib.ListN.{length, take, drop}
 use lib.Seq.{sets}
 use Rattle.ring.specs.Counting.{tally}
@@ -57,6 +57,12 @@ unfoldable pub groupsListed : List ℕ → List ℕ → List ℕ → List ℕ
 groupsListed t [] out = out
 groupsListed t (g ∷ gs) out = groupsListed t gs (groupListed t g out)
 
--- the list call's effect: a list that is too short is left as it is
-abbrev pub listedIn : List ℕ → List ℕ → List ℕ
-listedIn t out = cond (leb (countOf t) (length out)) (filled t out) out
+-- ---- listing in one pass
+-- the list after the step for group g: that is lent the group's cells and the list from the group's place on, and fills the front of what it is lent
+abbrev pub stepped : List ℕ → ℕ → List ℕ → List ℕ
+stepped t g out = take (placeOf t g) out ++ filled (group t g) (drop (placeOf t g) out)
+
+-- the list after the steps for groups 0 to g - 1, one after the other
+unfoldable pub passed : List ℕ → ℕ → List ℕ → List ℕ
+passed t zero out = out
+passed t (suc g) out = stepped t g (passed t g out)

@@ -1,27 +1,15 @@
 -- The cells are read from the last to the first: the word so far is that of the cells from `i` on.
 use mathlib.Core.Path.{_≡_, sym, _∙_, ap}
-use mathlib.Core.List.{List}
-use Prim.Native.Nat.{ℕ, zero, suc, _+_, _-_, _*_, _^_, _≤_, _<_}
-use borrow.Author.Needs.{needs}
+use Prim.Native.Nat.{ℕ, _-_, _≤_}
 use native.Mathlib.Omega.{arith}
-use lib.ListN.{length, getD, drop, length-drop}
-use lib.Pow.{pow-mono}
-use lib.Seq.{drop-cons, drop-length}
-use Rattle.words.specs.Words.{taken, wordOf}
-use Rattle.words.proofs.Words.{taken-le, word-lt}
+use borrow.Author.Needs.{needs}
+use lib.ListN.{length, getD, drop}
+use lib.Seq.{drop-length}
+use Rattle.words.specs.Words.{wordOf}
+use Rattle.words.proofs.Words.{taken-le}
+use Rattle.listing.proofs.Down.{word-down, room}
 use Rattle.listing.proofs.occupancy.Statement.{statement}
 use Rattle.listing.proofs.occupancy.Tie as tie
-
--- one cell further down
-word-down : (l : List ℕ) (i : ℕ) → 0 < i → i ≤ length l → 2 * wordOf (drop i l) + taken (getD l (i - 1) 0) ≡ wordOf (drop (i - 1) l)
-word-down l zero h k = absurd (omega arith)
-word-down l (suc i) h k = let e : suc i - 1 ≡ i = omega arith in rw (e, drop-cons l i 0)
-
--- the word so far leaves room for one more bit
-room : (l : List ℕ) (i : ℕ) → 0 < i → length l ≤ 64 → 2 * wordOf (drop i l) + 1 < 2 ^ 64
-room l i h k =
-    let m : length (drop i l) ≤ 63 = simp length-drop (omega arith) in
-    omega (arith, word-lt (drop i l), pow-mono m)
 
 abbrev Inv-loop : tie.InvT-loop
 Inv-loop group i₀ word₀ i word = (i ≤ length group) × (word ≡ wordOf (drop i group))
@@ -29,14 +17,20 @@ Inv-loop group i₀ word₀ i word = (i ≤ length group) × (word ≡ wordOf (d
 abbrev μ-loop : tie.MeasureT-loop
 μ-loop group i₀ word₀ i word = i
 
+full-occupancy-requires : tie.Need-full-occupancy-requires Inv-loop μ-loop
+full-occupancy-requires c κs = search needs
+
+returns : tie.Need-returns Inv-loop μ-loop
+returns c = c .full-occupancy .ensures
+
 loop-holds : tie.Need-loop-holds Inv-loop μ-loop
-loop-holds c = (omega arith, sym (ap wordOf (drop-length (c .before .args .group .now))))
+loop-holds c = (omega arith, sym (ap wordOf (drop-length (c .before .before .args .group .now))))
 
 sub-i : tie.Need-sub-i Inv-loop μ-loop
 sub-i c = search needs
 
 mul-word : tie.Need-mul-word Inv-loop μ-loop
-mul-word c = omega (arith, room (c .before .before .before .args .group .now) (c .before .loop .i) (c .loop-test .taken) (c .before .before .before .pre))
+mul-word c = omega (arith, room (c .before .before .before .before .args .group .now) (c .before .loop .i) 1 (c .before .before .before .before .pre) (c .loop-test .taken))
 
 mul-taken-bit : tie.Need-mul-taken-bit Inv-loop μ-loop
 mul-taken-bit c = search needs
@@ -49,23 +43,23 @@ taken-bit-requires c κs = search needs
 
 add-word : tie.Need-add-word Inv-loop μ-loop
 add-word c =
-    let l = c .before .before .before .before .before .args .group .now in
+    let l = c .before .before .before .before .before .before .args .group .now in
     let i = c .before .before .before .loop .i in
-    omega (arith, room l i (c .before .before .loop-test .taken) (c .before .before .before .before .before .pre), taken-le (getD l (i - 1) 0), c .taken-bit .ensures)
+    omega (arith, room l i 1 (c .before .before .before .before .before .before .pre) (c .before .before .loop-test .taken), taken-le (getD l (i - 1) 0), c .taken-bit .ensures)
 
 loop-less : tie.Need-loop-less Inv-loop μ-loop
 loop-less c = search needs
 
 loop-again : tie.Need-loop-again Inv-loop μ-loop
 loop-again c =
-    let l = c .before .before .before .before .before .args .group .now in
+    let l = c .before .before .before .before .before .before .args .group .now in
     let h = word-down l (c .before .before .before .loop .i) (c .before .before .loop-test .taken) (c .before .before .before .loop .inv .0) in
     (omega arith, omega (arith, c .taken-bit .ensures))
 
-returns : tie.Need-returns Inv-loop μ-loop
-returns c =
+returns-2 : tie.Need-returns-2 Inv-loop μ-loop
+returns-2 c =
     let e : c .before .loop .i ≡ 0 = omega arith in
-    c .before .loop .inv .1 ∙ ap (λ (i : ℕ). wordOf (drop i (c .before .before .before .args .group .now))) e
+    c .before .loop .inv .1 ∙ ap (λ (i : ℕ). wordOf (drop i (c .before .before .before .before .args .group .now))) e
 
 pub occupancy-spec : {M : Type 1} → statement M
 occupancy-spec =
@@ -73,6 +67,8 @@ occupancy-spec =
     (tie.spec
     Inv-loop
     μ-loop
+    full-occupancy-requires
+    returns
     loop-holds
     sub-i
     mul-word
@@ -82,4 +78,4 @@ occupancy-spec =
     add-word
     loop-less
     loop-again
-    returns)
+    returns-2)

@@ -1,60 +1,61 @@
+-- Each return by what count answered.
 use mathlib.Core.Path.{_∙_, refl, sym}
-use Rattle.state.specs.Model.{gateway}
-use Rattle.state.specs.declared.Reply.the-variants.{Refused}
-use Rattle.state.specs.declared.Counted.the-variants as counted
-use Rattle.tables.proofs.Answers.{listed-as, list-by, short, full}
 use borrow.Author.Needs.{needs}
+use Rattle.state.specs.Model.{gateway}
+use Rattle.state.specs.declared.Counted.the-variants as counted
+use Rattle.state.specs.declared.Refusal.the-variants.{ShortList}
+use Rattle.tables.proofs.Answers.{listed-as, refused-alike, short, full, room}
 use Rattle.rest.proofs.list.Statement.{statement}
 use Rattle.rest.proofs.list.Tie as tie
 
-check-requires : tie.Need-check-requires
-check-requires c κs = search needs
+count-requires : tie.Need-count-requires
+count-requires c κs = search needs
 
-enum-known-checked : tie.Need-enum-known-checked
-enum-known-checked c = search needs
+enum-known-counted : tie.Need-enum-known-counted
+enum-known-counted c = search needs
 
-enum-told : tie.Need-enum-told
-enum-told c = search needs
+enum-known-counted-2 : tie.Need-enum-known-counted-2
+enum-known-counted-2 c = search needs
 
 list-entries-requires : tie.Need-list-entries-requires
-list-entries-requires c κs = search needs
+list-entries-requires c κs =
+    let b = c .before .before .before in
+    let a = b .before .before .before .before .before .args in
+    room gateway (a .cells .now) (a .out .now) _ (sym (b .before .before .count .ensures) ∙ b .counted2 .given .1) (c .before .if1 .left)
 
 returns : tie.Need-returns
 returns c =
     let a = c .before .before .before .before .before .before .args in
-    listed-as gateway (a .cells .now) (a .out .now) (counted.Refused _)
-    (list-by gateway (a .cells .now) (a .out .now) (Refused _) (sym (c .before .before .before .check .ensures) ∙ c .before .checked .given .1)) (a .out .now) refl
+    let e = sym (c .before .before .before .count .ensures) ∙ c .before .counted .given .1 in
+    listed-as gateway (a .cells .now) (a .out .now) (counted.Refused _) (refused-alike gateway (a .cells .now) (a .out .now) _ e) (a .out .now) refl
+
+returns-2 : tie.Need-returns-2
+returns-2 c =
+    let b = c .before .before in
+    let a = b .before .before .before .before .before .args in
+    let e = sym (b .before .before .count .ensures) ∙ b .counted2 .given .1 in
+    listed-as gateway (a .cells .now) (a .out .now) (counted.Refused ShortList) (short gateway (a .cells .now) (a .out .now) _ e (c .if1 .taken)) (a .out .now) refl
 
 same-length : tie.Need-same-length
 same-length c = search needs
 
-returns-2 : tie.Need-returns-2
-returns-2 c =
-    let a = c .before .before .before .before .before .before .before .before .before .before .args in
-    let listed = c .before .before .before .list-entries .ensures in
-    short gateway (a .cells .now) (a .out .now)
-    (sym (c .before .before .before .before .before .before .before .check .ensures) ∙ c .before .before .before .before .before .enum-told .given .1) _ _ (listed .0) (listed .1) (c .if1 .taken)
-
-same-length-2 : tie.Need-same-length-2
-same-length-2 c = search needs
-
 returns-3 : tie.Need-returns-3
 returns-3 c =
-    let a = c .before .before .before .before .before .before .before .before .before .before .args in
-    let listed = c .before .before .before .list-entries .ensures in
-    full gateway (a .cells .now) (a .out .now)
-    (sym (c .before .before .before .before .before .before .before .check .ensures) ∙ c .before .before .before .before .before .enum-told .given .1) _ _ (listed .0) (listed .1) (c .if1 .left)
+    let b = c .before .before .before .before .before .before in
+    let a = b .before .before .before .before .before .args in
+    let e = sym (b .before .before .count .ensures) ∙ b .counted2 .given .1 in
+    listed-as gateway (a .cells .now) (a .out .now) (counted.Count _)
+    (full gateway (a .cells .now) (a .out .now) _ e (c .before .before .before .before .if1 .left)) _ (c .before .before .list-entries .ensures)
 
 pub list-spec : {M : Type 1} → statement M
 list-spec =
     tie.close
     (tie.spec
-    check-requires
-    enum-known-checked
-    enum-told
+    count-requires
+    enum-known-counted
+    enum-known-counted-2
     list-entries-requires
     returns
-    same-length
     returns-2
-    same-length-2
+    same-length
     returns-3)
