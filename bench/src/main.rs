@@ -8,12 +8,14 @@ use std::path::Path;
 use std::process::{Command, Stdio};
 use std::time::Instant;
 
+use conformance::shifts::calls_of;
 use conformance::{close, order, order_line, read_till, reference_open, reference_run, turn, Call, Calls, Orders, REFUSED};
+use reference::generate::factory::{self, GOLDEN};
 use reference::generate::till::{written, Quotes, Record};
 use reference::generate::Rng;
-use reference::layout::{content, label_of, layout, way_is_greater, Prices, MAX_PRICE};
+use reference::layout::{content, label_of, layout, way_is_greater, Homes, Prices, MAX_PRICE};
 use reference::listing;
-use reference::phase::{Activity, Order, Phase};
+use reference::phase::{Activity, Order, Phase, LOOK_UP, PUT_IN, TAKE_OUT};
 use reference::till;
 
 /// Seconds of the median round of each side.
@@ -44,6 +46,9 @@ fn price(key: u32) -> u32 {
 }
 
 const CELLS: usize = 8192;
+
+/// The homes of all jobs but the label factory's.
+const HOMES: Homes = Homes::PLAIN;
 
 /// How many tables of a family are taken in turn: neither side learns one by heart, as the processor's branch prediction does.
 const TABLES: u32 = 16;
@@ -76,7 +81,7 @@ impl Family {
             let key = (self.label)(random.below(u32::MAX as usize) as u32, set.len() as u32, number);
             set.insert(key, price(key));
         }
-        layout(CELLS, &set)
+        layout(HOMES, CELLS, &set)
     }
 
     /// The same by the share of the cells that are taken.
@@ -100,41 +105,45 @@ impl Work {
     }
 
     /// A check that answers this.
-    fn check(self, name: &str, tables: &[Vec<u64>], answer: Result<(), u8>) {
+    fn check(self, name: &str, homes: Homes, tables: &[Vec<u64>], answer: Result<(), u8>) {
         self.line(
             &format!("check, {name}"),
             tables,
-            |table| assert_eq!(conformance::check(table), answer),
-            |table| assert_eq!(listing::check(table), answer),
+            |table| assert_eq!(conformance::check(homes, table), answer),
+            |table| assert_eq!(listing::check(homes, table), answer),
         );
+    }
+
+    /// Check, count and list of sound tables with as many labels each.
+    fn at_rest(self, name: &str, homes: Homes, tables: &[Vec<u64>]) {
+        self.check(name, homes, tables, Ok(()));
+        let labels = listing::count(homes, &tables[0]);
+        self.line(
+            &format!("count, {name}"),
+            tables,
+            |table| assert_eq!(conformance::count(homes, table), labels),
+            |table| assert_eq!(listing::count(homes, table), labels),
+        );
+        let (mut ours, mut theirs) = (vec![0; tables[0].len()], vec![0; tables[0].len()]);
+        self.line(
+            &format!("list, {name}"),
+            tables,
+            |table| assert_eq!(conformance::list(homes, table, &mut ours), labels),
+            |table| assert_eq!(listing::list(homes, table, &mut theirs), labels),
+        );
+        assert_eq!(ours, theirs);
     }
 }
 
-/// Check, count and list of sound tables.
+/// Check, count and list of a family's tables.
 fn sound(family: Family, share: f64, work: Work) {
     let tables: Vec<_> = (0..TABLES).map(|number| family.share(share, number)).collect();
-    let name = format!("{:.1} % full, {}", share * 100.0, family.name);
-    work.check(&name, &tables, Ok(()));
-    let labels = listing::count(&tables[0]);
-    work.line(
-        &format!("count, {name}"),
-        &tables,
-        |table| assert_eq!(conformance::count(table), labels),
-        |table| assert_eq!(listing::count(table), labels),
-    );
-    let (mut ours, mut theirs) = (vec![0; CELLS], vec![0; CELLS]);
-    work.line(
-        &format!("list, {name}"),
-        &tables,
-        |table| assert_eq!(conformance::list(table, &mut ours), labels),
-        |table| assert_eq!(listing::list(table, &mut theirs), labels),
-    );
-    assert_eq!(ours, theirs);
+    work.at_rest(&format!("{:.1} % full, {}", share * 100.0, family.name), HOMES, &tables);
 }
 
 /// The lowest-numbered cell whose label breaks the way rule.
 fn lowest_broken(table: &[u64]) -> Option<usize> {
-    (0..table.len()).find(|&at| table[at] != 0 && !way_is_greater(table, label_of(table[at]), at))
+    (0..table.len()).find(|&at| table[at] != 0 && !way_is_greater(HOMES, table, label_of(table[at]), at))
 }
 
 /// The table with a change near its end that leaves the ways of all labels in the first nine tenths of the cells as they are and breaks one behind, so that it is
@@ -145,7 +154,7 @@ fn broken_late(table: &[u64], number: u8, change: impl Fn(&mut [u64], usize)) ->
         change(&mut table, at);
         table
     };
-    let late = |table: &Vec<u64>| lowest_broken(table).is_some_and(|at| at >= CELLS / 10 * 9) && listing::check(table) == Err(number);
+    let late = |table: &Vec<u64>| lowest_broken(table).is_some_and(|at| at >= CELLS / 10 * 9) && listing::check(HOMES, table) == Err(number);
     (1..CELLS).rev().map(changed).find(late)
 }
 
@@ -179,7 +188,7 @@ fn unsound() {
         ("refused with 18 near the end, 95.0 % full", swapped, 18),
     ] {
         let tables: Vec<_> = (0..).filter_map(spoil).take(TABLES as usize).collect();
-        Work { rounds: 61, repeat: 32 }.check(name, &tables, Err(number));
+        Work { rounds: 61, repeat: 32 }.check(name, HOMES, &tables, Err(number));
     }
 }
 
@@ -199,18 +208,18 @@ fn at_rest() {
 }
 
 /// A shift of sixteen workers on 4,096 cells, about 60 % full, recorded once: its list, and orders and turns as chance deals them.
-fn recorded(kind: u64) -> (Vec<u64>, Vec<Order>, Vec<Call>) {
+fn recorded(kind: u64) -> Shift {
     let mut random = Rng::new(kind);
     let mut set = Prices::new();
     while set.len() < if kind == 1 { 1200 } else { 2500 } {
         let key = random.below(u32::MAX as usize) as u32 + 1;
         set.insert(key, price(key));
     }
-    let opening = layout(4096, &set);
+    let opening = layout(HOMES, 4096, &set);
     let known: Vec<u32> = set.into_keys().collect();
     let mut table = opening.clone();
     // The list is made on the way, so that each line is for the worker whose turn it is; an opening with a list leaves the same record.
-    let mut phase = Phase::open(kind, 16, &table, &[]).expect("a sound table");
+    let mut phase = Phase::open(kind, 16, HOMES, &table, &[]).expect("a sound table");
     let mut list = Vec::new();
     let mut calls = Vec::new();
     while calls.len() < 60_000 {
@@ -229,32 +238,69 @@ fn recorded(kind: u64) -> (Vec<u64>, Vec<Order>, Vec<Call>) {
         }
     }
     calls.push(close());
-    (opening, list, calls)
+    Shift { kind, homes: HOMES, opening, orders: list, calls }
+}
+
+/// A shift of sixteen workers that is known call by call.
+struct Shift {
+    kind: u64,
+    homes: Homes,
+    opening: Vec<u64>,
+    orders: Vec<Order>,
+    calls: Vec<Call>,
+}
+
+type Run = fn(&Calls, u64, u64, Homes, &mut [u64], &Orders, &mut [u64]) -> u64;
+
+impl Shift {
+    /// Seconds of the whole shift.
+    fn times(&self, run: Run) -> (f64, f64) {
+        let Shift { kind, homes, ref opening, ref orders, ref calls } = *self;
+        let (list, lent) = (Calls::of(calls), Orders::of(orders));
+        let (mut ours, mut theirs) = (opening.clone(), opening.clone());
+        let (mut said, mut expected) = (vec![0; calls.len()], vec![0; calls.len()]);
+        let times = alternate(
+            61,
+            || {
+                ours.copy_from_slice(opening);
+                seconds(|| assert_eq!(run(&list, kind, 16, homes, &mut ours, &lent, &mut said), 0))
+            },
+            || {
+                theirs.copy_from_slice(opening);
+                seconds(|| assert_eq!(reference_run(kind, 16, homes, &mut theirs, orders, calls, &mut expected), 0))
+            },
+        );
+        assert_eq!((ours, said), (theirs, expected));
+        times
+    }
 }
 
 fn turns() {
-    type Run = fn(&Calls, u64, u64, &mut [u64], &Orders, &mut [u64]) -> u64;
     for (kind, name) in [(1, "put in"), (2, "take out"), (3, "look up")] {
-        let (opening, orders, calls) = recorded(kind);
-        let (list, lent) = (Calls::of(&calls), Orders::of(&orders));
+        let shift = recorded(kind);
         for (run, how) in [(Calls::run_singly as Run, "one call by value"), (Calls::run, "batch of calls")] {
-            let (mut ours, mut theirs) = (opening.clone(), opening.clone());
-            let (mut said, mut expected) = (vec![0; calls.len()], vec![0; calls.len()]);
-            let times = alternate(
-                61,
-                || {
-                    ours.copy_from_slice(&opening);
-                    seconds(|| assert_eq!(run(&list, kind, 16, &mut ours, &lent, &mut said), 0))
-                },
-                || {
-                    theirs.copy_from_slice(&opening);
-                    seconds(|| assert_eq!(reference_run(kind, 16, &mut theirs, &orders, &calls, &mut expected), 0))
-                },
-            );
-            assert_eq!((ours, said), (theirs, expected));
-            let per = 1e9 / calls.len() as f64;
-            line(&format!("{how}, {name}, {} calls", calls.len()), "ns", per, times);
+            let per = 1e9 / shift.calls.len() as f64;
+            line(&format!("{how}, {name}, {} calls", shift.calls.len()), "ns", per, shift.times(run));
         }
+    }
+}
+
+/// The label factory's case, with homes that crowd and homes that spread: whole shifts of sixteen workers as one batch, turns dealt round and round,
+/// and tables at rest, those of sixteen stretches of labels in turn.
+fn factory() {
+    const LABELS: usize = 900;
+    for homes in [Homes::PLAIN, GOLDEN] {
+        let name = format!("{LABELS} labels in steps of 100 in 1,025 cells, a {}, b {}", homes.a, homes.b);
+        let orders = factory::orders(LABELS);
+        let (empty, full) = (vec![0; factory::CELLS], factory::table(homes, LABELS));
+        for (kind, opening, what) in [(PUT_IN, &empty, "put-in"), (LOOK_UP, &full, "look-up"), (TAKE_OUT, &full, "take-out")] {
+            let steps = factory::shift(kind, homes, &mut opening.clone(), &orders);
+            let calls = calls_of(kind, &orders, &steps);
+            let shift = Shift { kind: kind.into(), homes, opening: opening.clone(), orders: orders.clone(), calls };
+            line(&format!("whole {what} shift, {name}, {} calls", shift.calls.len()), "µs", 1e6, shift.times(Calls::run));
+        }
+        let tables: Vec<_> = (0..TABLES as usize).map(|number| factory::table_of(homes, &factory::later_orders(LABELS * number, LABELS))).collect();
+        Work { rounds: 61, repeat: 64 }.at_rest(&name, homes, &tables);
     }
 }
 
@@ -286,14 +332,14 @@ fn room_by_set(table: &[u64], list: &[Order]) -> bool {
 /// An opening on 8,192 cells with a list of 65,536 lines, in both forms of the list: beside the reference's, and beside the count alone by a set.
 fn opening(case: &str, kind: u64, standing: &[u32], sent: &[u32], opens: bool) {
     let set: Prices = standing.iter().map(|&label| (label, price(label))).collect();
-    let mut table = layout(8192, &set);
+    let mut table = layout(HOMES, 8192, &set);
     let listed = |(i, &label): (u32, &u32)| Order { worker: i % 16, label, price: price(label) };
     let list: Vec<Order> = (0..65_536).zip(sent.iter().cycle()).map(listed).collect();
     let (lent, none) = (Orders::of(&list), Calls::default());
     let answer = if opens { 0 } else { REFUSED + 9 };
-    let reference = |table: &[u64]| seconds(|| assert_eq!(reference_open(kind, 16, black_box(table), black_box(&list)), answer));
-    let structs = |table: &[u64]| seconds(|| assert_eq!(lent.open(kind, 16, black_box(table)), answer));
-    let parallel = |table: &mut [u64]| seconds(|| assert_eq!(none.run(kind, 16, black_box(table), &lent, &mut []), answer));
+    let reference = |table: &[u64]| seconds(|| assert_eq!(reference_open(kind, 16, HOMES, black_box(table), black_box(&list)), answer));
+    let structs = |table: &[u64]| seconds(|| assert_eq!(lent.open(kind, 16, HOMES, black_box(table)), answer));
+    let parallel = |table: &mut [u64]| seconds(|| assert_eq!(none.run(kind, 16, HOMES, black_box(table), &lent, &mut []), answer));
     let set = |table: &[u64]| seconds(|| assert_eq!(room_by_set(black_box(table), black_box(&list)), opens));
     line(&format!("opening, {case}"), "µs", 1e6, alternate(31, || structs(&table), || reference(&table)));
     if kind == 1 {
@@ -331,11 +377,11 @@ fn sheet(by_run: bool) -> Vec<u8> {
                 orders.extend(b"run\n");
             }
         }
-        text.extend(b"open\t1\t16\n");
+        text.extend(b"open\t1\t16\t1\t0\n");
         text.extend(orders);
         text.extend(b"close\n");
     }
-    text.extend(b"open\t3\t16\n");
+    text.extend(b"open\t3\t16\t1\t0\n");
     let mut lines = text.iter().filter(|&&b| b == b'\n').count();
     while lines < 1_000_000 {
         for worker in 0..16 {
@@ -426,4 +472,5 @@ fn main() {
     tills();
     openings();
     at_rest();
+    factory();
 }

@@ -1,5 +1,6 @@
 //! Safe wrappers of the exported functions of crate `exports`, and their answers in the reference's terms.
 
+use reference::layout::Homes;
 use reference::phase::{Answer, Order, Phase};
 use reference::till;
 
@@ -17,6 +18,8 @@ mod raw {
     pub type RunCalls = unsafe extern "C" fn(
         kind: u64,
         count: u64,
+        a: u32,
+        b: u32,
         cells: *mut u64,
         length: usize,
         order_keys: *const u32,
@@ -38,14 +41,26 @@ mod raw {
     ) -> u64;
 
     extern "C" {
-        pub fn vulzegan_check(cells: *const u64, length: usize) -> u64;
-        pub fn vulzegan_count(cells: *const u64, length: usize) -> u64;
-        pub fn vulzegan_list(cells: *const u64, length: usize, out: *mut u64, room: usize) -> u64;
-        pub fn vulzegan_open(kind: u64, count: u64, cells: *const u64, length: usize, orders: *const Order, orders_length: usize) -> u64;
+        pub fn vulzegan_check(a: u32, b: u32, cells: *const u64, length: usize) -> u64;
+        pub fn vulzegan_count(a: u32, b: u32, cells: *const u64, length: usize) -> u64;
+        pub fn vulzegan_list(a: u32, b: u32, cells: *const u64, length: usize, out: *mut u64, room: usize) -> u64;
+        #[allow(clippy::too_many_arguments)]
+        pub fn vulzegan_open(
+            kind: u64,
+            count: u64,
+            a: u32,
+            b: u32,
+            cells: *const u64,
+            length: usize,
+            orders: *const Order,
+            orders_length: usize,
+        ) -> u64;
         #[allow(clippy::too_many_arguments)]
         pub fn vulzegan_run_calls(
             kind: u64,
             count: u64,
+            a: u32,
+            b: u32,
             cells: *mut u64,
             length: usize,
             order_keys: *const u32,
@@ -69,6 +84,8 @@ mod raw {
         pub fn vulzegan_run_calls_singly(
             kind: u64,
             count: u64,
+            a: u32,
+            b: u32,
             cells: *mut u64,
             length: usize,
             order_keys: *const u32,
@@ -117,16 +134,16 @@ fn value(answer: u64) -> Result<usize, u8> {
     }
 }
 
-pub fn check(cells: &[u64]) -> Result<(), u8> {
-    value(unsafe { raw::vulzegan_check(cells.as_ptr(), cells.len()) }).map(|accepted| assert_eq!(accepted, 0))
+pub fn check(Homes { a, b }: Homes, cells: &[u64]) -> Result<(), u8> {
+    value(unsafe { raw::vulzegan_check(a, b, cells.as_ptr(), cells.len()) }).map(|accepted| assert_eq!(accepted, 0))
 }
 
-pub fn count(cells: &[u64]) -> Result<usize, u8> {
-    value(unsafe { raw::vulzegan_count(cells.as_ptr(), cells.len()) })
+pub fn count(Homes { a, b }: Homes, cells: &[u64]) -> Result<usize, u8> {
+    value(unsafe { raw::vulzegan_count(a, b, cells.as_ptr(), cells.len()) })
 }
 
-pub fn list(cells: &[u64], out: &mut [u64]) -> Result<usize, u8> {
-    value(unsafe { raw::vulzegan_list(cells.as_ptr(), cells.len(), out.as_mut_ptr(), out.len()) })
+pub fn list(Homes { a, b }: Homes, cells: &[u64], out: &mut [u64]) -> Result<usize, u8> {
+    value(unsafe { raw::vulzegan_list(a, b, cells.as_ptr(), cells.len(), out.as_mut_ptr(), out.len()) })
 }
 
 /// Reads a till's list for so many workers into three lists, of keys, prices and workers; the number of records. Lists shorter than 2 to the power 32
@@ -177,8 +194,8 @@ impl Orders {
     }
 
     /// The answer of the opening with the list of structs.
-    pub fn open(&self, kind: u64, count: u64, cells: &[u64]) -> u64 {
-        unsafe { raw::vulzegan_open(kind, count, cells.as_ptr(), cells.len(), self.structs.as_ptr(), self.structs.len()) }
+    pub fn open(&self, kind: u64, count: u64, Homes { a, b }: Homes, cells: &[u64]) -> u64 {
+        unsafe { raw::vulzegan_open(kind, count, a, b, cells.as_ptr(), cells.len(), self.structs.as_ptr(), self.structs.len()) }
     }
 }
 
@@ -228,11 +245,14 @@ impl Calls {
         }
     }
 
-    fn run_by(&self, run: raw::RunCalls, kind: u64, count: u64, cells: &mut [u64], orders: &Orders, answers: &mut [u64]) -> u64 {
+    #[allow(clippy::too_many_arguments)]
+    fn run_by(&self, run: raw::RunCalls, kind: u64, count: u64, homes: Homes, cells: &mut [u64], orders: &Orders, answers: &mut [u64]) -> u64 {
         unsafe {
             run(
                 kind,
                 count,
+                homes.a,
+                homes.b,
                 cells.as_mut_ptr(),
                 cells.len(),
                 orders.keys.as_ptr(),
@@ -256,13 +276,13 @@ impl Calls {
     }
 
     /// Opens a phase with the list of orders and applies the calls; the opening's answer.
-    pub fn run(&self, kind: u64, count: u64, cells: &mut [u64], orders: &Orders, answers: &mut [u64]) -> u64 {
-        self.run_by(raw::vulzegan_run_calls, kind, count, cells, orders, answers)
+    pub fn run(&self, kind: u64, count: u64, homes: Homes, cells: &mut [u64], orders: &Orders, answers: &mut [u64]) -> u64 {
+        self.run_by(raw::vulzegan_run_calls, kind, count, homes, cells, orders, answers)
     }
 
     /// The same, each call by value with the record tested at each.
-    pub fn run_singly(&self, kind: u64, count: u64, cells: &mut [u64], orders: &Orders, answers: &mut [u64]) -> u64 {
-        self.run_by(raw::vulzegan_run_calls_singly, kind, count, cells, orders, answers)
+    pub fn run_singly(&self, kind: u64, count: u64, homes: Homes, cells: &mut [u64], orders: &Orders, answers: &mut [u64]) -> u64 {
+        self.run_by(raw::vulzegan_run_calls_singly, kind, count, homes, cells, orders, answers)
     }
 }
 
@@ -283,13 +303,13 @@ fn told(answer: Answer) -> u64 {
 }
 
 /// The opening's answer by the reference.
-pub fn reference_open(kind: u64, count: u64, cells: &[u64], orders: &[Order]) -> u64 {
-    Phase::open(kind, count, cells, orders).map_or_else(refused, |_| 0)
+pub fn reference_open(kind: u64, count: u64, homes: Homes, cells: &[u64], orders: &[Order]) -> u64 {
+    Phase::open(kind, count, homes, cells, orders).map_or_else(refused, |_| 0)
 }
 
 /// The opening and the calls by the reference.
-pub fn reference_run(kind: u64, count: u64, cells: &mut [u64], orders: &[Order], calls: &[Call], answers: &mut [u64]) -> u64 {
-    let mut phase = match Phase::open(kind, count, cells, orders) {
+pub fn reference_run(kind: u64, count: u64, homes: Homes, cells: &mut [u64], orders: &[Order], calls: &[Call], answers: &mut [u64]) -> u64 {
+    let mut phase = match Phase::open(kind, count, homes, cells, orders) {
         Err(number) => return refused(number),
         Ok(phase) => phase,
     };

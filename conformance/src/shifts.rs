@@ -1,7 +1,8 @@
 //! Whole shifts: the calls from an opening to its close, and the table that a shift closes on.
 
+use reference::generate::factory::Step;
 use reference::generate::Rng;
-use reference::layout::{label_of, layout, price_of, Prices};
+use reference::layout::{label_of, layout, price_of, Homes, Prices};
 use reference::phase::{Activity, Order, Phase, PUT_IN, TAKE_OUT};
 
 use crate::{close, order, order_line, turn, Call};
@@ -10,7 +11,7 @@ use crate::{close, order, order_line, turn, Call};
 pub type Entry = (u32, u32);
 
 /// The layout that a shift closes on: the set, and for each label the least price among that at opening and those ordered.
-pub fn closed(kind: u32, table: &[u64], ordered: &[Entry]) -> Vec<u64> {
+pub fn closed(kind: u32, homes: Homes, table: &[u64], ordered: &[Entry]) -> Vec<u64> {
     let mut set: Prices = table.iter().filter(|&&c| c != 0).map(|&c| (label_of(c), price_of(c))).collect();
     for &(label, price) in ordered {
         match kind {
@@ -22,12 +23,12 @@ pub fn closed(kind: u32, table: &[u64], ordered: &[Entry]) -> Vec<u64> {
             _ => (),
         }
     }
-    layout(table.len(), &set)
+    layout(homes, table.len(), &set)
 }
 
 /// The calls of a shift with these orders, each for its worker, from the opening to the close: in put-in shifts by line, some twice.
-pub fn dealt(random: &mut Rng, kind: u32, crew: u32, table: &[u64], orders: &[Order]) -> Vec<Call> {
-    let mut phase = Phase::open(kind.into(), crew.into(), table, orders).expect("a sound table with room");
+pub fn dealt(random: &mut Rng, kind: u32, crew: u32, homes: Homes, table: &[u64], orders: &[Order]) -> Vec<Call> {
+    let mut phase = Phase::open(kind.into(), crew.into(), homes, table, orders).expect("a sound table with room");
     let mut table = table.to_vec();
     let mut given = 0;
     let mut calls = Vec::new();
@@ -49,4 +50,14 @@ pub fn dealt(random: &mut Rng, kind: u32, crew: u32, table: &[u64], orders: &[Or
     }
     calls.push(close());
     calls
+}
+
+/// The calls of a shift whose steps are known, and its close.
+pub fn calls_of(kind: u32, orders: &[Order], steps: &[Step]) -> Vec<Call> {
+    let call = |step: &Step| match *step {
+        Step::Order(line) if kind == PUT_IN => order_line(line as u32),
+        Step::Order(line) => order(orders[line].worker, orders[line].label),
+        Step::Turn(worker) => turn(worker as u32),
+    };
+    steps.iter().map(call).chain([close()]).collect()
 }

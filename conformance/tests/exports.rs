@@ -1,16 +1,20 @@
-//! The exported functions against the reference, on sound, torn, full, damaged and oversized tables, on lists of orders and on lists of calls.
+//! The exported functions against the reference, on sound, torn, full, damaged and oversized tables, on lists of orders and on lists of calls,
+//! with homes by many a and b.
 //!
 //! The library lends the list of the opening to every order call: what an altered list does is not reached from here.
 
 use std::collections::BTreeMap;
 use std::time::{Duration, Instant};
 
-use conformance::shifts::{closed, dealt, Entry};
+use conformance::shifts::{calls_of, closed, dealt, Entry};
 use conformance::{check, close, count, list, order, order_line, reference_open, reference_run, turn, Call, Calls, Orders, REFUSED, WORDS};
-use reference::generate::{all_lists, fill, later, orders, overwrite, price, returned, spoil, table, torn, Rng, WRONG_PRICES};
-use reference::layout::{content, label_of, layout, Prices, MAX_PRICE};
+use reference::generate::factory::{self, crowding, FITTED, GOLDEN, PRIME};
+use reference::generate::{
+    all_lists, even_homes, fill, homes, label_with, later, orders, other_homes, overwrite, price, returned, spoil, table, torn, Rng, WRONG_PRICES,
+};
+use reference::layout::{content, is_sound, label_of, layout, Homes, Prices, MAX_PRICE};
 use reference::listing::{self, GROUP};
-use reference::phase::{Activity, Order, Phase, PUT_IN, TAKE_OUT};
+use reference::phase::{Activity, Order, Phase, LOOK_UP, PUT_IN, TAKE_OUT};
 use reference::refusal;
 
 /// What stands in lent places before a call.
@@ -21,12 +25,31 @@ fn put(worker: u32, label: u32, price: u32) -> Order {
     Order { worker, label, price }
 }
 
-fn same_at_rest(table: &[u64], room: usize) {
-    assert_eq!(check(table), listing::check(table), "check of {table:?}");
-    assert_eq!(count(table), listing::count(table), "count of {table:?}");
+/// Homes at the borders of the 32 bits, odd a and then even ones.
+const ODD: [u32; 6] = [1, 3, 101, (1 << 31) + 1, 2_654_435_769, u32::MAX];
+const EVEN: [u32; 6] = [0, 2, 100, 1 << 31, 2_654_435_768, u32::MAX - 1];
+const ADDED: [u32; 4] = [0, 1, 1 << 31, u32::MAX];
+
+/// All a of a list with all b.
+fn pairs(all: &[u32]) -> impl Iterator<Item = Homes> + '_ {
+    all.iter().flat_map(|&a| ADDED.map(|b| Homes { a, b }))
+}
+
+/// Document 01's homes as often as others.
+fn some_homes(random: &mut Rng) -> Homes {
+    if random.once_in(2) {
+        Homes::PLAIN
+    } else {
+        homes(random)
+    }
+}
+
+fn same_at_rest(homes: Homes, table: &[u64], room: usize) {
+    assert_eq!(check(homes, table), listing::check(homes, table), "check of {table:?}, {homes:?}");
+    assert_eq!(count(homes, table), listing::count(homes, table), "count of {table:?}, {homes:?}");
     let (mut ours, mut theirs) = (vec![MARK; room], vec![MARK; room]);
-    assert_eq!(list(table, &mut ours), listing::list(table, &mut theirs), "list of {table:?}, {room} places");
-    assert_eq!(ours, theirs, "places after the list of {table:?}");
+    assert_eq!(list(homes, table, &mut ours), listing::list(homes, table, &mut theirs), "list of {table:?}, {homes:?}, {room} places");
+    assert_eq!(ours, theirs, "places after the list of {table:?}, {homes:?}");
 }
 
 #[test]
@@ -38,28 +61,32 @@ fn check_count_and_list() {
             1 => 2 + random.below(400),
             _ => 2 + random.below(12),
         };
-        let table = if round % 2 == 0 { table(&mut random, cells) } else { returned(&mut random, cells) };
+        let homes = some_homes(&mut random);
+        let table = if round % 2 == 0 { table(&mut random, homes, cells) } else { returned(&mut random, homes, cells) };
         let labels = table.iter().filter(|&&x| x != 0).count();
+        let others = [other_homes(&mut random, homes, cells), even_homes(&mut random)];
         for room in [0, labels.saturating_sub(1), labels, labels + 1, cells + 5] {
-            same_at_rest(&table, room);
+            same_at_rest(homes, &table, room);
+            others.iter().for_each(|&other| same_at_rest(other, &table, room));
         }
     }
 }
 
 /// A table with a label in its home in each of the cells that are told: sound, unless all are.
-fn at_home(cells: usize, taken: impl Fn(usize) -> bool) -> Vec<u64> {
-    let label = |at| if at == 0 { cells as u32 } else { at as u32 };
+fn at_home(homes: Homes, cells: usize, taken: impl Fn(usize) -> bool) -> Vec<u64> {
+    let labels = |at| (0..).map(move |turn| label_with(homes, (at + turn * cells) as u32));
+    let label = |at| labels(at).find(|&label| label > 0).expect("a label");
     (0..cells).map(|at| if taken(at) { content(label(at), 1 + at as u32) } else { 0 }).collect()
 }
 
 /// The list of a sound table, with so many places behind: each group's cells stand behind as many as there are ones in the earlier words, and what stood
 /// behind them all still does. With a place too few nothing is written.
-fn listed_by_groups(table: &[u64], behind: usize) {
+fn listed_by_groups(homes: Homes, table: &[u64], behind: usize) {
     let words: Vec<u64> = (0..table.len().div_ceil(GROUP)).map(|group| listing::taken_word(table, group)).collect();
     let labels: usize = words.iter().map(|word| word.count_ones() as usize).sum();
     let mark = |place: usize| MARK + place as u64;
     let mut lent: Vec<u64> = (0..labels + behind).map(mark).collect();
-    assert_eq!(list(table, &mut lent), Ok(labels), "{table:?}");
+    assert_eq!(list(homes, table, &mut lent), Ok(labels), "{table:?}");
     let mut place = 0;
     for (group, &word) in words.iter().enumerate() {
         for bit in (0..GROUP).filter(|bit| word >> bit & 1 == 1) {
@@ -71,7 +98,7 @@ fn listed_by_groups(table: &[u64], behind: usize) {
     assert!((labels..labels + behind).all(|place| lent[place] == mark(place)), "behind the list of {table:?}");
     if labels > 0 {
         let mut short: Vec<u64> = (0..labels - 1).map(mark).collect();
-        assert_eq!(list(table, &mut short), Err(refusal::SHORT_LIST));
+        assert_eq!(list(homes, table, &mut short), Err(refusal::SHORT_LIST));
         assert!((0..labels - 1).all(|place| short[place] == mark(place)), "a short list of {table:?}");
     }
 }
@@ -79,11 +106,13 @@ fn listed_by_groups(table: &[u64], behind: usize) {
 /// Every choice of taken cells in small tables.
 #[test]
 fn every_group_of_few_cells() {
-    for cells in 2..=13 {
-        for choice in 0..(1 << cells) - 1 {
-            let table = at_home(cells, |at| choice >> at & 1 == 1);
-            listed_by_groups(&table, choice % 4);
-            same_at_rest(&table, cells);
+    for (homes, most) in [(Homes::PLAIN, 13), (GOLDEN, 9), (Homes { a: u32::MAX, b: 77 }, 9)] {
+        for cells in 2..=most {
+            for choice in 0..(1 << cells) - 1 {
+                let table = at_home(homes, cells, |at| choice >> at & 1 == 1);
+                listed_by_groups(homes, &table, choice % 4);
+                same_at_rest(homes, &table, cells);
+            }
         }
     }
 }
@@ -94,30 +123,33 @@ fn every_group_of_few_cells() {
 fn groups_one_after_the_other() {
     let mut random = Rng::new(77);
     for cells in [2, 3, 31, 62, 63, 64, 65, 66, 96, 126, 127, 128, 129, 130, 191, 192, 193, 256, 1000, 4096, 8191, 8192] {
-        let mut tables: Vec<Vec<u64>> = vec![
-            at_home(cells, |at| at % GROUP == 0),
-            at_home(cells, |at| at % GROUP == GROUP - 1),
-            at_home(cells, |at| at % GROUP != 0),
-            at_home(cells, |at| at % GROUP != GROUP - 1),
-            at_home(cells, |at| at % 2 == 0),
-            at_home(cells, |at| at % 2 == 1),
-            at_home(cells, |at| at / GROUP % 2 == 0 && at > 0),
-            at_home(cells, |at| at / GROUP % 2 == 1),
-            at_home(cells, |_| false),
-        ];
-        for at in [0, 1, 31, 32, 62, 63, 64, 65, 127, 128, cells / 2, cells - 2, cells - 1].into_iter().filter(|&at| at < cells) {
-            tables.push(at_home(cells, |cell| cell == at));
-            tables.push(at_home(cells, |cell| cell != at));
-        }
-        for tenths in 1..10 {
-            let taken: Vec<bool> = (0..cells).map(|at| at > 0 && random.below(10) < tenths).collect();
-            tables.push(at_home(cells, |at| taken[at]));
-        }
-        for table in tables.iter().filter(|table| table.contains(&0)) {
-            for behind in [0, 1, 63, 64, 65] {
-                listed_by_groups(table, behind);
+        for homes in [Homes::PLAIN, homes(&mut random)] {
+            let at_home = |taken: &dyn Fn(usize) -> bool| at_home(homes, cells, taken);
+            let mut tables: Vec<Vec<u64>> = vec![
+                at_home(&|at| at % GROUP == 0),
+                at_home(&|at| at % GROUP == GROUP - 1),
+                at_home(&|at| at % GROUP != 0),
+                at_home(&|at| at % GROUP != GROUP - 1),
+                at_home(&|at| at % 2 == 0),
+                at_home(&|at| at % 2 == 1),
+                at_home(&|at| at / GROUP % 2 == 0 && at > 0),
+                at_home(&|at| at / GROUP % 2 == 1),
+                at_home(&|_| false),
+            ];
+            for at in [0, 1, 31, 32, 62, 63, 64, 65, 127, 128, cells / 2, cells - 2, cells - 1].into_iter().filter(|&at| at < cells) {
+                tables.push(at_home(&|cell| cell == at));
+                tables.push(at_home(&|cell| cell != at));
             }
-            same_at_rest(table, cells);
+            for tenths in 1..10 {
+                let taken: Vec<bool> = (0..cells).map(|at| at > 0 && random.below(10) < tenths).collect();
+                tables.push(at_home(&|at| taken[at]));
+            }
+            for table in tables.iter().filter(|table| table.contains(&0)) {
+                for behind in [0, 1, 63, 64, 65] {
+                    listed_by_groups(homes, table, behind);
+                }
+                same_at_rest(homes, table, cells);
+            }
         }
     }
 }
@@ -126,11 +158,16 @@ fn groups_one_after_the_other() {
 fn the_limits_of_a_table() {
     let mut random = Rng::new(2);
     for cells in [0, 1, 2, 8191, 8192, 8193, 10000] {
-        same_at_rest(&vec![0; cells], 3);
-        if cells >= 2 {
-            let table = table(&mut random, cells);
-            same_at_rest(&table, cells);
-            same_at_rest(&returned(&mut random, cells), cells);
+        for homes in [Homes::PLAIN, homes(&mut random), even_homes(&mut random)] {
+            same_at_rest(homes, &vec![0; cells], 3);
+        }
+        for homes in [Homes::PLAIN, homes(&mut random)] {
+            if cells >= 2 {
+                let table = table(&mut random, homes, cells);
+                same_at_rest(homes, &table, cells);
+                same_at_rest(even_homes(&mut random), &table, cells);
+                same_at_rest(homes, &returned(&mut random, homes, cells), cells);
+            }
         }
     }
 }
@@ -142,12 +179,13 @@ fn wrong_cells() {
         for at in 0..cells {
             for label in [0, at as u32, (at + cells) as u32, u32::MAX] {
                 for price in [0, 1, 2, MAX_PRICE - 1, MAX_PRICE, MAX_PRICE + 1, 1 << 24, (1 << 24) + 1, (1 << 31) + 1, u32::MAX] {
-                    let mut table = vec![0; cells];
-                    table[at] = content(label, price);
-                    same_at_rest(&table, cells);
-                    table.fill(1);
-                    table[at] = content(label, price);
-                    same_at_rest(&table, cells);
+                    let (mut alone, mut among) = (vec![0; cells], vec![1; cells]);
+                    alone[at] = content(label, price);
+                    among[at] = content(label, price);
+                    for homes in [Homes::PLAIN, GOLDEN, Homes { a: 3, b: u32::MAX }] {
+                        same_at_rest(homes, &alone, cells);
+                        same_at_rest(homes, &among, cells);
+                    }
                 }
             }
         }
@@ -155,21 +193,21 @@ fn wrong_cells() {
 }
 
 /// The opening, alone and before a batch of calls or calls one by one, and the calls: answers and tables are those of the reference.
-fn same_run(kind: u64, crew: u64, table: &[u64], orders: &[Order], calls: &[Call]) -> Vec<u64> {
-    same_run_of(kind, crew, table, (orders, &Orders::of(orders)), (calls, &Calls::of(calls)), calls.len() + 2)
+fn same_run(kind: u64, crew: u64, homes: Homes, table: &[u64], orders: &[Order], calls: &[Call]) -> Vec<u64> {
+    same_run_of(kind, crew, homes, table, (orders, &Orders::of(orders)), (calls, &Calls::of(calls)), calls.len() + 2)
 }
 
 /// The same for lists that amount to these orders and these calls, and for so many places for answers.
-fn same_run_of(kind: u64, crew: u64, table: &[u64], orders: (&[Order], &Orders), calls: (&[Call], &Calls), places: usize) -> Vec<u64> {
+fn same_run_of(kind: u64, crew: u64, homes: Homes, table: &[u64], orders: (&[Order], &Orders), calls: (&[Call], &Calls), places: usize) -> Vec<u64> {
     let mut expected = (vec![MARK; places], table.to_vec());
-    let opening = reference_run(kind, crew, &mut expected.1, orders.0, calls.0, &mut expected.0);
+    let opening = reference_run(kind, crew, homes, &mut expected.1, orders.0, calls.0, &mut expected.0);
     // told where an answer differs; of a long list the front
-    let told = || format!("{kind} {crew} {table:?}, {} orders {:?}, {:?}", orders.0.len(), &orders.0[..orders.0.len().min(100)], calls.0);
-    assert_eq!(orders.1.open(kind, crew, table), opening, "opening alone: {}", told());
-    type Run = fn(&Calls, u64, u64, &mut [u64], &Orders, &mut [u64]) -> u64;
+    let told = || format!("{kind} {crew} {homes:?} {table:?}, {} orders {:?}, {:?}", orders.0.len(), &orders.0[..orders.0.len().min(100)], calls.0);
+    assert_eq!(orders.1.open(kind, crew, homes, table), opening, "opening alone: {}", told());
+    type Run = fn(&Calls, u64, u64, Homes, &mut [u64], &Orders, &mut [u64]) -> u64;
     for (run, name) in [(Calls::run as Run, "batch"), (Calls::run_singly, "one by one")] {
         let mut ours = (vec![MARK; places], table.to_vec());
-        assert_eq!(run(calls.1, kind, crew, &mut ours.1, orders.1, &mut ours.0), opening, "opening, {name}: {}", told());
+        assert_eq!(run(calls.1, kind, crew, homes, &mut ours.1, orders.1, &mut ours.0), opening, "opening, {name}: {}", told());
         assert_eq!(ours.0, expected.0, "answers, {name}: {}", told());
         assert_eq!(ours.1, expected.1, "table, {name}: {}", told());
     }
@@ -190,19 +228,19 @@ fn numbers_of_the_header() {
     for (n, name) in [(1, "WENT_ON"), (2, "FINISHED"), (4, "NO"), (5, "IDLE")] {
         assert_eq!(meaning(&format!("VULZEGAN_{name}")), format!("(VULZEGAN_WORDS + {n})"));
     }
-    for (n, name) in [(4, "UNSOUND"), (17, "GAP"), (18, "DISORDER"), (19, "BAD_RECORD"), (20, "BAD_FIELD")] {
+    for (n, name) in [(4, "UNSOUND"), (17, "GAP"), (18, "DISORDER"), (19, "BAD_RECORD"), (20, "BAD_FIELD"), (21, "EVEN")] {
         assert_eq!(meaning(&format!("VULZEGAN_{name}")), format!("(VULZEGAN_REFUSED + {n})"));
     }
-    assert!(header.contains("VULZEGAN_REFUSED + the number of documents 01 and 02, 1 to 20."));
+    assert!(header.contains("VULZEGAN_REFUSED + the number of documents 01 and 02, 1 to 21."));
     let functions: Vec<&str> = header.lines().filter(|l| l.contains(" vulzegan_") && l.contains('(')).collect();
     assert!(functions.len() == 7 && functions.iter().all(|l| l.starts_with("uint64_t vulzegan_")), "{functions:?}");
     let text = header.split_whitespace().collect::<Vec<_>>().join(" ");
     for (list, times) in [
-        ("(const uint64_t *cells, size_t cells_len", 3),
+        ("(uint32_t a, uint32_t b, const uint64_t *cells, size_t cells_len", 3),
         ("uint64_t *out, size_t out_len);", 1),
         ("struct vulzegan_order { uint32_t key; uint32_t price; uint32_t worker; };", 1),
-        ("(uint64_t kind, uint64_t count, const uint64_t *cells, size_t cells_len, const struct vulzegan_order *orders, size_t orders_len);", 1),
-        ("(uint64_t kind, uint64_t count, uint64_t *cells, size_t cells_len, const uint32_t *order_keys, size_t order_keys_len,", 2),
+        ("(uint64_t kind, uint64_t count, uint32_t a, uint32_t b, const uint64_t *cells, size_t cells_len, const struct vulzegan_order *orders, size_t orders_len);", 1),
+        ("(uint64_t kind, uint64_t count, uint32_t a, uint32_t b, uint64_t *cells, size_t cells_len, const uint32_t *order_keys, size_t order_keys_len,", 2),
         ("const uint32_t *order_prices, size_t order_prices_len, const uint32_t *order_workers, size_t order_workers_len,", 2),
         ("const uint32_t *ops, size_t ops_len, const uint32_t *lines, size_t lines_len,", 2),
         ("const uint32_t *workers, size_t workers_len, const uint32_t *keys, size_t keys_len, uint64_t *answers, size_t answers_len);", 2),
@@ -212,6 +250,7 @@ fn numbers_of_the_header() {
         assert_eq!(text.matches(list).count(), times, "{list}");
     }
     assert!(!header.contains("VULZEGAN_YES"));
+    assert!(text.contains("it is (a times key plus b) modulo 4,294,967,296, then modulo the number of cells."));
 }
 
 // ---- openings
@@ -222,20 +261,23 @@ fn openings_at_the_limits() {
         for crew in [0, 1, 16, 17, 1 << 40] {
             for kind in [0, 1, 2, 3, 4, 4_000_000_000] {
                 for list in [&[][..], &[put(0, 5, 1)], &[put(1, 0, 0)]] {
-                    same_run(kind, crew, &vec![0; cells], list, &[Call { op: 1, line: 0, worker: 0, key: 5 }, turn(0), close()]);
+                    for homes in [Homes::PLAIN, GOLDEN, Homes { a: u32::MAX, b: u32::MAX }, Homes { a: u32::MAX - 1, b: 0 }] {
+                        let calls = [Call { op: 1, line: 0, worker: 0, key: 5 }, turn(0), close()];
+                        same_run(kind, crew, homes, &vec![0; cells], list, &calls);
+                    }
                 }
             }
         }
     }
     for (labels, number) in [([0, 0, 0, 8, 13], 18), ([0, 0, 0, 3, 3], 18), ([6, 0, 0, 0, 0], 17), ([5, 6, 7, 8, 9], 4)] {
         let table = labels.map(|x| if x == 0 { 0 } else { content(x, 1) });
-        assert_eq!(check(&table), Err(number));
-        assert_eq!(same_openings(&table), REFUSED + u64::from(number));
+        assert_eq!(check(Homes::PLAIN, &table), Err(number));
+        assert_eq!(same_openings(Homes::PLAIN, &table), REFUSED + u64::from(number));
     }
     for cell in [1, MAX_PRICE.into(), content(8, 0), content(8, MAX_PRICE), content(8, MAX_PRICE + 1), content(8, u32::MAX)] {
         for kind in 1..=3 {
             let calls = [Call { op: 1, line: 0, worker: 0, key: 8 }, turn(0), turn(0), turn(0), turn(0)];
-            same_run(kind, 1, &[0, 0, 0, cell, 0], &[put(0, 8, 1)], &calls);
+            same_run(kind, 1, Homes::PLAIN, &[0, 0, 0, cell, 0], &[put(0, 8, 1)], &calls);
         }
     }
 }
@@ -244,8 +286,8 @@ fn openings_at_the_limits() {
 #[test]
 fn openings_refuse_in_order() {
     let refused = |kind, crew, table: &[u64], list: &[Order], number: u64| {
-        same_run(kind, crew, table, list, &[]);
-        assert_eq!(reference_open(kind, crew, table, list), REFUSED + number, "{kind} {crew} {table:?}");
+        same_run(kind, crew, Homes::PLAIN, table, list, &[]);
+        assert_eq!(reference_open(kind, crew, Homes::PLAIN, table, list), REFUSED + number, "{kind} {crew} {table:?}");
     };
     let long = vec![put(9, 0, 0); 65_537];
     let full = [put(0, 1, 1), put(0, 2, 1), put(0, 3, 1)];
@@ -295,14 +337,14 @@ fn openings_refuse_in_order() {
 
 /// Openings of every kind, without a list, with lines that a sound table takes, with a bad line behind one of them, and with more labels than
 /// it has room for. The answer that they have in common where the table is not sound, otherwise 0.
-fn same_openings(table: &[u64]) -> u64 {
+fn same_openings(homes: Homes, table: &[u64]) -> u64 {
     let many: Vec<Order> = (0..=table.len() as u32).map(|i| put(1, u32::MAX - i, 7)).collect();
     let calls = [Call { op: 1, line: 0, worker: 0, key: 5 }, turn(0), turn(0), turn(1), close()];
-    let answer = reference_open(2, 2, table, &[]);
+    let answer = reference_open(2, 2, homes, table, &[]);
     for kind in 1..=3 {
         for list in [&[][..], &[put(0, 5, 3), put(1, 5, 2)], &[put(0, 5, 3), put(2, 0, 0)], &many] {
-            same_run(kind, 2, table, list, &calls);
-            assert!(answer == 0 || answer == reference_open(kind, 2, table, list));
+            same_run(kind, 2, homes, table, list, &calls);
+            assert!(answer == 0 || answer == reference_open(kind, 2, homes, table, list));
         }
     }
     answer
@@ -314,12 +356,12 @@ struct Tally(BTreeMap<u64, usize>);
 
 impl Tally {
     /// A table through check, count, list and the openings.
-    fn take(&mut self, table: &[u64]) {
+    fn take(&mut self, homes: Homes, table: &[u64]) {
         let labels = table.iter().filter(|&&cell| cell != 0).count();
         for room in [0, labels, table.len() + 1] {
-            same_at_rest(table, room);
+            same_at_rest(homes, table, room);
         }
-        *self.0.entry(same_openings(table)).or_default() += 1;
+        *self.0.entry(same_openings(homes, table)).or_default() += 1;
     }
 
     /// Accepted, 4, 17 and 18 came up, each at least so often, and nothing else.
@@ -337,7 +379,7 @@ fn all_small_tables() {
     contents.extend((1..=8).map(|label| content(label, 1)));
     let tally = |cells| {
         let mut tally = Tally::default();
-        all_lists(cells, &contents).for_each(|table| tally.take(&table));
+        all_lists(cells, &contents).for_each(|table| tally.take(Homes::PLAIN, &table));
         tally
     };
     // of two cells one is empty and the other has a label, at home there or not
@@ -348,6 +390,13 @@ fn all_small_tables() {
         assert_eq!(tally.0[&0], sound);
         tally.each(45);
     }
+    // as many with other homes
+    for homes in [GOLDEN, Homes { a: u32::MAX, b: 1 }, Homes { a: 0x3333_3333, b: u32::MAX }] {
+        let mut tally = Tally::default();
+        all_lists(3, &contents).for_each(|table| tally.take(homes, &table));
+        assert_eq!(tally.0[&0], 1 + 7 + 21 + 2 * (1 + 7));
+        tally.each(10);
+    }
 }
 
 /// Sound, torn, full and written over, by one damage or several, spread and crowded.
@@ -357,7 +406,8 @@ fn returned_tables() {
     let mut tally = Tally::default();
     for round in 0..12_000 {
         let cells = if round % 4 == 0 { random.within(2, 400) } else { random.within(2, 40) };
-        tally.take(&returned(&mut random, cells));
+        let homes = some_homes(&mut random);
+        tally.take(homes, &returned(&mut random, homes, cells));
     }
     tally.each(1000);
 }
@@ -368,7 +418,8 @@ fn large_returned_tables() {
     let mut random = Rng::new(9);
     let mut tally = Tally::default();
     for round in 0..90 {
-        tally.take(&returned(&mut random, 8190 + round % 3));
+        let homes = some_homes(&mut random);
+        tally.take(homes, &returned(&mut random, homes, 8190 + round % 3));
     }
     tally.each(8);
 }
@@ -380,9 +431,10 @@ fn one_cell_written_over() {
     let mut tally = Tally::default();
     for _ in 0..9000 {
         let cells = random.within(2, 130);
-        let mut table = table(&mut random, cells);
+        let homes = some_homes(&mut random);
+        let mut table = table(&mut random, homes, cells);
         overwrite(&mut random, &mut table);
-        tally.take(&table);
+        tally.take(homes, &table);
     }
     tally.each(800);
 }
@@ -394,11 +446,12 @@ fn torn_everywhere() {
     let mut tally = Tally::default();
     for cells in [64, 65, 100, 127, 128, 129, 130] {
         for _ in 0..8 {
-            let old = table(&mut random, cells);
-            for new in [later(&mut random, &old), table(&mut random, cells)] {
+            let homes = some_homes(&mut random);
+            let old = table(&mut random, homes, cells);
+            for new in [later(&mut random, homes, &old), table(&mut random, homes, cells)] {
                 for cut in 0..=cells {
-                    tally.take(&torn(&old, &new, cut));
-                    tally.take(&torn(&new, &old, cut));
+                    tally.take(homes, &torn(&old, &new, cut));
+                    tally.take(homes, &torn(&new, &old, cut));
                 }
             }
         }
@@ -413,11 +466,12 @@ fn full_tables() {
     let (mut full, mut tally) = (Tally::default(), Tally::default());
     for round in 0..600 {
         let cells = if round % 60 == 0 { random.within(8190, 8192) } else { random.within(2, 130) };
-        let mut table = table(&mut random, cells);
-        fill(&mut random, &mut table);
-        full.take(&table);
+        let homes = some_homes(&mut random);
+        let mut table = table(&mut random, homes, cells);
+        fill(&mut random, homes, &mut table);
+        full.take(homes, &table);
         table[random.below(cells)] = 0;
-        tally.take(&table);
+        tally.take(homes, &table);
     }
     assert_eq!(full.0, BTreeMap::from([(REFUSED + 4, 600)]));
     assert_eq!(tally.0.get(&(REFUSED + 4)), None);
@@ -427,18 +481,21 @@ fn full_tables() {
 /// All labels at one home, 8,191 of them: to walk every way reads 33 million cells, each time some 10 ms. A thousand checks take far less.
 #[test]
 fn crowded_tables_are_checked_in_linear_time() {
-    let labels = (1..8192).map(|i| content(8192 * (8192 - i), 1));
-    let sound: Vec<u64> = labels.chain([0]).collect();
-    let mut broken = sound.clone();
-    broken.swap(8189, 8190);
-    let start = Instant::now();
-    for _ in 0..1000 {
-        assert_eq!(check(&sound), Ok(()));
-        assert_eq!(check(&broken), Err(refusal::DISORDER));
+    for homes in [Homes::PLAIN, GOLDEN] {
+        let mut labels: Vec<u32> = (1..8192).map(|i| label_with(homes, 8192 * i)).collect();
+        labels.sort();
+        let sound: Vec<u64> = labels.into_iter().rev().map(|label| content(label, 1)).chain([0]).collect();
+        let mut broken = sound.clone();
+        broken.swap(8189, 8190);
+        let start = Instant::now();
+        for _ in 0..1000 {
+            assert_eq!(check(homes, &sound), Ok(()));
+            assert_eq!(check(homes, &broken), Err(refusal::DISORDER));
+        }
+        assert!(start.elapsed() < Duration::from_secs(5), "two thousand checks took {:?}", start.elapsed());
+        assert_eq!(listing::check(homes, &sound), Ok(()));
+        assert_eq!(listing::check(homes, &broken), Err(refusal::DISORDER));
     }
-    assert!(start.elapsed() < Duration::from_secs(5), "two thousand checks took {:?}", start.elapsed());
-    assert_eq!(listing::check(&sound), Ok(()));
-    assert_eq!(listing::check(&broken), Err(refusal::DISORDER));
 }
 
 // ---- openings with lists
@@ -455,9 +512,9 @@ fn two_cells_with_7() {
         (vec![put(0, 8, 1)], REFUSED + 9),
         (vec![put(0, 7, 1), put(0, u32::MAX, 1)], REFUSED + 9),
     ] {
-        assert_eq!(Orders::of(&list).open(1, 1, &table), full);
+        assert_eq!(Orders::of(&list).open(1, 1, Homes::PLAIN, &table), full);
         for kind in 1..=3 {
-            same_run(kind, 1, &table, &list, &[order_line(0), turn(0), turn(0), turn(0), close()]);
+            same_run(kind, 1, Homes::PLAIN, &table, &list, &[order_line(0), turn(0), turn(0), turn(0), close()]);
         }
     }
 }
@@ -473,10 +530,12 @@ fn all_small_openings() {
         lists.extend(longest);
     }
     assert_eq!(lists.len(), 1 + 7 + 49 + 343);
-    for table in tables(3, 3, &[1]) {
-        for list in &lists {
-            for kind in 1..=3 {
-                same_run(kind, 1, &table, list, &[]);
+    for homes in [Homes::PLAIN, Homes { a: u32::MAX, b: 5 }] {
+        for table in tables(homes, 3, 3, &[1]) {
+            for list in &lists {
+                for kind in 1..=3 {
+                    same_run(kind, 1, homes, &table, list, &[]);
+                }
             }
         }
     }
@@ -510,7 +569,8 @@ fn long_lists() {
             set.insert(family(random, which, i), price(random));
             i += 1;
         }
-        let table = layout(cells, &set);
+        let homes = some_homes(random);
+        let table = layout(homes, cells, &set);
         let old: Vec<u32> = set.into_keys().collect();
         for together in [cells - 1, cells, cells + 1] {
             let mut labels = old.clone();
@@ -524,12 +584,12 @@ fn long_lists() {
             let crew = random.within(1, 16);
             let mut list: Vec<Order> = labels.into_iter().map(|label| put(random.below(crew) as u32, label, price(random))).collect();
             for kind in 1..=3 {
-                same_run(kind, crew as u64, &table, &list, &[]);
+                same_run(kind, crew as u64, homes, &table, &list, &[]);
             }
             for _ in 0..2 {
                 let place = random.below(list.len());
                 spoil(random, &mut list[place], crew);
-                same_run(1, crew as u64, &table, &list, &[]);
+                same_run(1, crew as u64, homes, &table, &list, &[]);
             }
         }
     }
@@ -540,7 +600,7 @@ fn a_shift_without_orders_keeps_its_table() {
     let table = vec![content(4, 7), content(3, 1), 0, content(13, MAX_PRICE), content(8, 2)];
     for kind in 1..=3 {
         for list in [&[][..], &[put(0, 8, 1)]] {
-            assert_eq!(same_run(kind, 2, &table, list, &[close(), turn(0), close()]), table);
+            assert_eq!(same_run(kind, 2, Homes::PLAIN, &table, list, &[close(), turn(0), close()]), table);
         }
     }
 }
@@ -555,7 +615,7 @@ fn prices_and_lines() {
         for price in [1, 2, 3, MAX_PRICE].into_iter().chain(WRONG_PRICES) {
             let list = [put(0, 4, price), put(1, 7, 1), put(0, 7, price)];
             let opens = kind != 1 || !WRONG_PRICES.contains(&price);
-            assert_eq!(reference_open(kind, 2, &one_room, &list), if opens { 0 } else { REFUSED + 14 });
+            assert_eq!(reference_open(kind, 2, Homes::PLAIN, &one_room, &list), if opens { 0 } else { REFUSED + 14 });
             // past the list, then no worker or blank, then busy; where the handed worker and label are not read, they are wrong
             let mut calls = vec![];
             for line in [3, 4, u32::MAX, 0, 0, 2, 1, 1, 3] {
@@ -566,7 +626,7 @@ fn prices_and_lines() {
             }
             calls.extend([Call { op: 1, line: 2, worker: 0, key: 7 }, close(), turn(0), turn(0), turn(0), turn(0), turn(0), close()]);
             calls.extend([order_line(0), order_line(3), order(9, 0)]);
-            same_run(kind, 2, &one_room, &list, &calls);
+            same_run(kind, 2, Homes::PLAIN, &one_room, &list, &calls);
         }
     }
 }
@@ -588,7 +648,7 @@ fn the_shortest_list_decides() {
                 3 => list.keys.truncate(short),
                 _ => places = short,
             }
-            same_run_of(1, 2, &table, (&orders, &Orders::of(&orders)), (&calls[..short], &list), places);
+            same_run_of(1, 2, Homes::PLAIN, &table, (&orders, &Orders::of(&orders)), (&calls[..short], &list), places);
         }
     }
 }
@@ -614,14 +674,14 @@ fn the_shortest_part_of_the_orders_decides() {
                     parts.workers = longer.workers;
                 }
                 let calls: Vec<Call> = (0..6).flat_map(|line| [order_line(line), turn(0), turn(0), turn(0), turn(1), turn(1)]).collect();
-                same_run_of(1, 2, &table, (&orders[..short], &parts), (&calls, &Calls::of(&calls)), calls.len());
+                same_run_of(1, 2, Homes::PLAIN, &table, (&orders[..short], &parts), (&calls, &Calls::of(&calls)), calls.len());
             }
         }
     }
 }
 
 /// Turns to the workers in an order drawn at random, orders and closes between them, refused calls too. The lists send an assortment again,
-/// fill the table or overfill it, and some have bad lines.
+/// fill the table or overfill it, and some have bad lines. Some tables are opened under other homes than they were left by.
 #[test]
 fn random_lists_of_calls() {
     let mut random = Rng::new(3);
@@ -630,14 +690,20 @@ fn random_lists_of_calls() {
         let cells = 2 + random.below(7);
         let crew = 1 + random.below(4);
         let kind = 1 + random.below(3) as u64;
-        let table = table(&mut random, cells);
+        let own = some_homes(&mut random);
+        let table = table(&mut random, own, cells);
+        let homes = match random.below(16) {
+            0 => even_homes(&mut random),
+            1 => other_homes(&mut random, own, cells),
+            _ => own,
+        };
         let near = 3 * cells;
         let mut list = orders(&mut random, &table, crew, near);
         if !list.is_empty() && random.once_in(8) {
             let place = random.below(list.len());
             spoil(&mut random, &mut list[place], crew);
         }
-        opened += u64::from(kind == 1 && reference_open(kind, crew as u64, &table, &list) == 0);
+        opened += u64::from(kind == 1 && reference_open(kind, crew as u64, homes, &table, &list) == 0);
         let mut calls = Vec::new();
         for _ in 0..random.below(120) {
             let worker = match random.below(40) {
@@ -663,7 +729,7 @@ fn random_lists_of_calls() {
             calls.extend((0..crew as u32).map(turn));
         }
         calls.push(close());
-        same_run(kind, crew as u64, &table, &list, &calls);
+        same_run(kind, crew as u64, homes, &table, &list, &calls);
     }
     assert!(opened > 3000, "{opened} put-in shifts opened");
 }
@@ -675,7 +741,7 @@ fn for_workers(random: &mut Rng, crew: u32, entries: &[Entry]) -> Vec<Order> {
     entries.iter().map(|&(label, price)| put(random.below(crew as usize) as u32, label, price)).collect()
 }
 
-/// Two shifts on one table with the same labels ordered and, for each, the same least price close on one table, whoever has the orders, in
+/// Two shifts on one table with the same a and b, the same labels ordered and, for each, the same least price close on one table, whoever has the orders, in
 /// whatever sequence, with whatever turns, and with whatever higher prices ordered besides. It is the layout of the set with its least prices.
 #[test]
 fn equal_least_prices_close_alike() {
@@ -687,7 +753,8 @@ fn equal_least_prices_close_alike() {
         for _ in 0..random.below(cells / 2) {
             set.insert(1 + random.below(near) as u32, price(random));
         }
-        let opening = layout(cells, &set);
+        let homes = some_homes(random);
+        let opening = layout(homes, cells, &set);
         let room = cells - set.len() - 1;
         for kind in [PUT_IN, TAKE_OUT] {
             let mut entries: Vec<Entry> = (0..=random.below(room)).map(|_| (1 + random.below(near) as u32, price(random))).collect();
@@ -712,11 +779,11 @@ fn equal_least_prices_close_alike() {
             for entries in [&entries, &others] {
                 let crew = 1 + random.below(5) as u32;
                 let orders = for_workers(random, crew, entries);
-                let calls = dealt(random, kind, crew, &opening, &orders);
-                let left = same_run(kind.into(), crew.into(), &opening, &orders, &calls);
-                assert_eq!(left, closed(kind, &opening, entries), "{kind} {opening:?} {calls:?}");
+                let calls = dealt(random, kind, crew, homes, &opening, &orders);
+                let left = same_run(kind.into(), crew.into(), homes, &opening, &orders, &calls);
+                assert_eq!(left, closed(kind, homes, &opening, entries), "{kind} {homes:?} {opening:?} {calls:?}");
             }
-            assert_eq!(closed(kind, &opening, &entries), closed(kind, &opening, &others));
+            assert_eq!(closed(kind, homes, &opening, &entries), closed(kind, homes, &opening, &others));
         }
     }
 }
@@ -730,12 +797,13 @@ fn the_assortment_sent_again() {
         while set.len() + 1 < cells {
             set.insert(random.below(u32::MAX as usize) as u32 + 1, price(random));
         }
-        let opening = layout(cells, &set);
+        let homes = some_homes(random);
+        let opening = layout(homes, cells, &set);
         let mut entries: Vec<Entry> = set.keys().map(|&label| (label, price(random))).collect();
         random.shuffle(&mut entries);
         let orders = for_workers(random, 16, &entries);
-        let calls = dealt(random, PUT_IN, 16, &opening, &orders);
-        assert_eq!(same_run(1, 16, &opening, &orders, &calls), closed(PUT_IN, &opening, &entries));
+        let calls = dealt(random, PUT_IN, 16, homes, &opening, &orders);
+        assert_eq!(same_run(1, 16, homes, &opening, &orders, &calls), closed(PUT_IN, homes, &opening, &entries));
     }
 }
 
@@ -759,11 +827,11 @@ fn interleavings(phase: &Phase, table: &[u64], calls: &mut Vec<Call>, ended: &mu
 }
 
 /// All interleavings of one order for each worker; how many there are, none if the table has no room for them.
-fn all_interleavings(kind: u32, table: &[u64], entries: &[Entry]) -> u64 {
+fn all_interleavings(kind: u32, homes: Homes, table: &[u64], entries: &[Entry]) -> u64 {
     let crew = entries.len() as u64;
     let orders: Vec<Order> = (0..).zip(entries).map(|(worker, &(label, price))| put(worker, label, price)).collect();
-    let Ok(mut phase) = Phase::open(kind.into(), crew, table, &orders) else {
-        same_run(kind.into(), crew, table, &orders, &[]);
+    let Ok(mut phase) = Phase::open(kind.into(), crew, homes, table, &orders) else {
+        same_run(kind.into(), crew, homes, table, &orders, &[]);
         return 0;
     };
     let mut calls = Vec::new();
@@ -772,17 +840,17 @@ fn all_interleavings(kind: u32, table: &[u64], entries: &[Entry]) -> u64 {
         phase.order(&orders, call.line.into(), call.worker.into(), call.key).expect("an idle worker");
         calls.push(call);
     }
-    let expected = closed(kind, table, entries);
+    let expected = closed(kind, homes, table, entries);
     let mut runs = 0;
     interleavings(&phase, table, &mut calls, &mut |calls| {
-        assert_eq!(same_run(kind.into(), crew, table, &orders, calls), expected, "{kind} {table:?} {calls:?}");
+        assert_eq!(same_run(kind.into(), crew, homes, table, &orders, calls), expected, "{kind} {homes:?} {table:?} {calls:?}");
         runs += 1;
     });
     runs
 }
 
 /// The sound tables of some labels, each at every one of the prices.
-fn tables(cells: usize, labels: u32, prices: &[u32]) -> Vec<Vec<u64>> {
+fn tables(homes: Homes, cells: usize, labels: u32, prices: &[u32]) -> Vec<Vec<u64>> {
     let mut sets = vec![Prices::new()];
     for label in 1..=labels {
         for set in sets.clone() {
@@ -791,32 +859,35 @@ fn tables(cells: usize, labels: u32, prices: &[u32]) -> Vec<Vec<u64>> {
             }
         }
     }
-    sets.iter().map(|set| layout(cells, set)).collect()
+    sets.iter().map(|set| layout(homes, cells, set)).collect()
 }
 
 /// All interleavings of two workers with one order each, on every sound table of labels 1 to 6 in three cells at two prices.
 #[test]
 fn all_interleavings_of_small_shifts() {
     let mut runs = 0;
-    for table in tables(3, 6, &[5, 9]) {
-        for kind in 1..=3 {
-            for (a, b) in [(1, 1), (1, 4), (3, 6), (2, 3)] {
-                runs += all_interleavings(kind, &table, &[(a, 5), (b, 9)]);
+    // document 01's homes, and homes with four of the six labels in one cell
+    for homes in [Homes::PLAIN, Homes { a: 0x3333_3333, b: 1 }] {
+        for table in tables(homes, 3, 6, &[5, 9]) {
+            for kind in 1..=3 {
+                for (a, b) in [(1, 1), (1, 4), (3, 6), (2, 3)] {
+                    runs += all_interleavings(kind, homes, &table, &[(a, 5), (b, 9)]);
+                }
             }
         }
     }
-    assert!(runs > 10_000, "{runs} runs");
+    assert!(runs > 20_000, "{runs} runs");
 }
 
 /// All interleavings of two put-ins of any labels 1 to 8, at two prices each, on every sound table of four cells that has room for them.
 #[test]
 fn all_interleavings_of_two_put_ins() {
     let mut runs = 0;
-    for table in tables(4, 8, &[5, 9]) {
+    for table in tables(Homes::PLAIN, 4, 8, &[5, 9]) {
         for a in 1..=8 {
             for b in a..=8 {
                 for (p, q) in [(5, 5), (5, 9), (9, 5), (9, 9)] {
-                    runs += all_interleavings(1, &table, &[(a, p), (b, q)]);
+                    runs += all_interleavings(1, Homes::PLAIN, &table, &[(a, p), (b, q)]);
                 }
             }
         }
@@ -832,7 +903,7 @@ fn all_interleavings_of_one_label() {
         for p in 1..=4 {
             for q in 1..=4 {
                 for r in 1..=4 {
-                    runs += all_interleavings(1, &[0, 0, 0, opening, 0], &[(8, p), (8, q), (8, r)]);
+                    runs += all_interleavings(1, Homes::PLAIN, &[0, 0, 0, opening, 0], &[(8, p), (8, q), (8, r)]);
                 }
             }
         }
@@ -846,8 +917,246 @@ fn all_interleavings_of_a_label_pushed_on() {
     let mut runs = 0;
     for opening in [0, content(8, 1), content(8, 3), content(8, 9)] {
         for (p, q) in [(2, 4), (4, 2), (3, 3)] {
-            runs += all_interleavings(1, &[0, 0, 0, opening, 0], &[(8, p), (8, q), (13, 1)]);
+            runs += all_interleavings(1, Homes::PLAIN, &[0, 0, 0, opening, 0], &[(8, p), (8, q), (13, 1)]);
         }
     }
     assert!(runs > 1000, "{runs} runs");
+}
+
+// ---- homes
+
+/// A table with 9 behind its home, which is empty.
+fn gap(homes: Homes, cells: usize) -> Vec<u64> {
+    let mut table = vec![0; cells];
+    table[(homes.home(9, cells) + 1) % cells] = content(9, 1);
+    table
+}
+
+/// A table with two labels at home in cell 1, the smaller one there; a is odd.
+fn disorder(homes: Homes, cells: usize) -> Vec<u64> {
+    let mut labels = [7, 8].map(|turn| label_with(homes, turn * cells as u32 + 1));
+    labels.sort();
+    let mut table = vec![0; cells];
+    table[1] = content(labels[0], 1);
+    table[2] = content(labels[1], 1);
+    table
+}
+
+/// An even a gets 21 behind 1, 2 and 3 and before all else at opening, and behind 1 at rest; an odd one gets what is due behind it.
+#[test]
+fn even_a_in_its_place() {
+    let full = vec![put(0, 5, 1), put(0, 6, 1), put(0, 7, 1)];
+    let long = vec![put(9, 0, 0); 65_537];
+    let lists = [(vec![put(0, 0, 1)], 7), (vec![put(0, 5, 0)], 14), (vec![put(1, 5, 1)], 6), (full, 9), (long, 16), (vec![put(0, 5, 1)], 0)];
+    let lists = lists.map(|(list, behind)| (Orders::of(&list), list, behind));
+    let no_calls = Calls::default();
+    for (even, odd) in pairs(&EVEN).zip(pairs(&ODD)) {
+        let tables = [
+            (layout(odd, 3, &Prices::from([(4, 1)])), 0),
+            (vec![content(1, 1), content(3, 1), content(5, 1)], 4),
+            (vec![0, 7, 0], 4),
+            (gap(odd, 3), 17),
+            (disorder(odd, 3), 18),
+        ];
+        for (table, unsound) in &tables {
+            for (lent, list, behind) in &lists {
+                let answers = |kind, crew, homes, table: &[u64], number: u64| {
+                    same_run_of(kind, crew, homes, table, (list, lent), (&[], &no_calls), 2);
+                    let expected = if number == 0 { 0 } else { REFUSED + number };
+                    assert_eq!(lent.open(kind, crew, homes, table), expected, "{kind} {crew} {homes:?} {table:?}");
+                };
+                for homes in [even, odd] {
+                    for kind in [0, 1, 4] {
+                        answers(kind, 0, homes, &table[..1], 1);
+                        answers(kind, 0, homes, table, 2);
+                        answers(kind, 17, homes, table, 2);
+                    }
+                    answers(0, 1, homes, table, 3);
+                    answers(4, 16, homes, table, 3);
+                }
+                for kind in 1..=3 {
+                    answers(kind, 1, even, table, 21);
+                    let due = match (kind, behind, unsound) {
+                        (1, 16, _) => 16,
+                        (1, _, 0) => *behind,
+                        _ => *unsound,
+                    };
+                    answers(kind, 1, odd, table, due);
+                }
+            }
+            let expected = if *unsound == 0 { Ok(()) } else { Err(*unsound as u8) };
+            assert_eq!(check(odd, table), expected);
+            assert_eq!(check(even, table), Err(refusal::EVEN));
+            assert_eq!(count(even, table), Err(refusal::EVEN));
+            for room in [0, 1, 3] {
+                assert_eq!(list(even, table, &mut vec![MARK; room]), Err(refusal::EVEN));
+                same_at_rest(even, table, room);
+                same_at_rest(odd, table, room);
+            }
+            for cells in [0, 1, 8193] {
+                let table: Vec<u64> = table.iter().copied().cycle().take(cells).collect();
+                for homes in [even, odd] {
+                    assert_eq!(check(homes, &table), Err(refusal::SIZE));
+                    same_at_rest(homes, &table, 0);
+                    assert_eq!(same_openings(homes, &table), REFUSED + 1);
+                }
+            }
+        }
+    }
+}
+
+/// The paper's rule, in numbers that never overflow.
+fn by_the_paper(homes: Homes, label: u32, cells: usize) -> usize {
+    let product = u128::from(homes.a) * u128::from(label) + u128::from(homes.b);
+    (product % 4_294_967_296 % cells as u128) as usize
+}
+
+/// One label by itself: its home is where it comes to stand, the only cell where it may, and where a look-up and a take-out find it.
+fn at_home_by_itself(homes: Homes, label: u32, cells: usize) {
+    let home = by_the_paper(homes, label, cells);
+    let empty = vec![0; cells];
+    let mut alone = empty.clone();
+    alone[home] = content(label, 3);
+    assert_eq!(check(homes, &alone), Ok(()), "{homes:?} {label} {cells}");
+    let mut elsewhere = empty.clone();
+    elsewhere[(home + 1) % cells] = content(label, 3);
+    assert_eq!(check(homes, &elsewhere), Err(refusal::GAP), "{homes:?} {label} {cells}");
+    let orders = [put(0, label, 3)];
+    let calls = |order: Call| [order, turn(0), turn(0), turn(0), turn(0), close()];
+    assert_eq!(same_run(1, 1, homes, &empty, &orders, &calls(order_line(0))), alone);
+    assert_eq!(same_run(3, 1, homes, &alone, &[], &calls(order(0, label))), alone);
+    assert_eq!(same_run(2, 1, homes, &alone, &[], &calls(order(0, label))), empty);
+}
+
+/// Numbers at the borders of the 32 bits and any others; lengths that divide 4,294,967,296 and lengths that do not.
+#[test]
+fn homes_of_single_labels() {
+    let random = &mut Rng::new(21);
+    for homes in pairs(&ODD) {
+        for label in [1, 2, 13, 100, 1 << 31, u32::MAX - 1, u32::MAX] {
+            for cells in [2, 3, 5, 7, 64, 1025, 8191, 8192] {
+                at_home_by_itself(homes, label, cells);
+            }
+        }
+    }
+    for _ in 0..3000 {
+        let homes = homes(random);
+        let label = random.below(u32::MAX as usize) as u32 + 1;
+        let cells = random.within(2, 200);
+        at_home_by_itself(homes, label, cells);
+    }
+}
+
+/// One set in five cells: other a and b, other tables.
+#[test]
+fn one_set_in_other_tables() {
+    let random = &mut Rng::new(22);
+    let entries: [Entry; 4] = [(3, 1), (8, 1), (13, 1), (4, 1)];
+    for (a, b, labels) in [
+        (1, 0, [4, 3, 0, 13, 8]),
+        (1, 1, [8, 4, 3, 0, 13]),
+        (1, 5, [4, 3, 0, 13, 8]),
+        (3, 0, [8, 3, 4, 0, 13]),
+        (u32::MAX, 0, [3, 0, 4, 13, 8]),
+        (1, u32::MAX, [3, 0, 13, 8, 4]),
+    ] {
+        let homes = Homes { a, b };
+        for _ in 0..100 {
+            let orders = for_workers(random, 2, &entries);
+            let calls = dealt(random, PUT_IN, 2, homes, &[0; 5], &orders);
+            let left = same_run(1, 2, homes, &[0; 5], &orders, &calls);
+            assert_eq!(left, labels.map(|label| content(label, label.min(1))), "{homes:?}");
+        }
+    }
+}
+
+/// Tables left by one a and b under others: 17, 18 or accepted, and then they close by the others.
+#[test]
+fn opened_under_others() {
+    let cells = |labels: [u32; 3]| labels.map(|label| content(label, label.min(1)));
+    for (b, answer) in [(0, 0), (1, REFUSED + 17), (2, REFUSED + 18), (3, 0)] {
+        assert_eq!(same_openings(Homes { a: 1, b }, &cells([3, 0, 2])), answer);
+    }
+    let random = &mut Rng::new(23);
+    let mut tally = Tally::default();
+    let mut moved = 0;
+    for _ in 0..6000 {
+        let length = random.within(2, 40);
+        let first = homes(random);
+        let table = table(random, first, length);
+        let second = other_homes(random, first, length);
+        tally.take(second, &table);
+        if is_sound(second, &table) {
+            moved += 1;
+            let labels: Vec<Entry> = table.iter().filter(|&&cell| cell != 0).map(|&cell| (label_of(cell), 1)).collect();
+            let gone: Vec<Entry> = labels.into_iter().filter(|_| random.once_in(2)).collect();
+            let orders = for_workers(random, 3, &gone);
+            let calls = dealt(random, TAKE_OUT, 3, second, &table, &orders);
+            let left = same_run(2, 3, second, &table, &orders, &calls);
+            assert_eq!(left, closed(TAKE_OUT, second, &table, &gone), "{first:?} {second:?} {table:?}");
+        }
+    }
+    let answers: Vec<u64> = tally.0.keys().copied().collect();
+    assert_eq!(answers, [0, REFUSED + 17, REFUSED + 18], "{:?}", tally.0);
+    assert!(tally.0.values().all(|&often| often > 500) && moved > 500, "{:?} {moved}", tally.0);
+}
+
+/// Long tables, filled and emptied again by halves under any homes.
+#[test]
+fn large_shifts_under_any_homes() {
+    let random = &mut Rng::new(24);
+    for round in 0..24 {
+        let cells = random.pick(&[1000, 1025, 4095, 4096, 8191, 8192]);
+        let homes = if round == 0 { GOLDEN } else { homes(random) };
+        let mut set = Prices::new();
+        while set.len() < cells / 2 {
+            set.insert(random.below(u32::MAX as usize) as u32 + 1, price(random));
+        }
+        let mut table = layout(homes, cells, &set);
+        for kind in [TAKE_OUT, PUT_IN] {
+            let known: Vec<u32> = set.keys().copied().collect();
+            let entries: Vec<Entry> = (0..cells / 4).map(|_| (random.pick(&known), price(random))).collect();
+            let orders = for_workers(random, 16, &entries);
+            let calls = dealt(random, kind, 16, homes, &table, &orders);
+            let left = same_run(kind.into(), 16, homes, &table, &orders, &calls);
+            assert_eq!(left, closed(kind, homes, &table, &entries));
+            table = left;
+        }
+    }
+}
+
+/// The label factory's shifts, with homes that crowd and homes that spread: the same answers, as many turns and the same closed tables.
+#[test]
+fn the_factory() {
+    for homes in [Homes::PLAIN, GOLDEN, PRIME, FITTED] {
+        for labels in [512, 900, 1024] {
+            let orders = factory::orders(labels);
+            let seen = crowding(homes, labels);
+            let full = factory::table(homes, labels);
+            let empty = vec![0; factory::CELLS];
+            for (kind, opening, left, turns) in
+                [(PUT_IN, &empty, &full, seen.put_in), (LOOK_UP, &full, &full, seen.look_up), (TAKE_OUT, &full, &empty, seen.take_out)]
+            {
+                let steps = factory::shift(kind, homes, &mut opening.clone(), &orders);
+                let calls = calls_of(kind, &orders, &steps);
+                assert_eq!(calls.iter().filter(|call| call.op == 2).count(), turns);
+                assert_eq!(&same_run(kind.into(), 16, homes, opening, &orders, &calls), left);
+                let mut answers = vec![MARK; calls.len()];
+                let lent = Orders::of(&orders);
+                assert_eq!(Calls::of(&calls).run(kind.into(), 16, homes, &mut opening.clone(), &lent, &mut answers), 0);
+                // every turn was worth one, every order finished, and the close was accepted
+                assert!(answers.iter().all(|answer| *answer != WORDS + 5 && !(REFUSED..=WORDS).contains(answer)));
+                let went_on = answers.iter().filter(|&&answer| answer == WORDS + 1).count();
+                assert_eq!((turns - went_on, answers.last()), (labels, Some(&0)));
+            }
+            same_at_rest(homes, &full, labels);
+            same_openings(homes, &full);
+            assert_eq!(count(homes, &full), Ok(labels));
+            // closed under one pair and opened under another
+            for other in [Homes::PLAIN, GOLDEN, PRIME, FITTED].into_iter().filter(|&other| other != homes) {
+                same_at_rest(other, &full, labels);
+                assert_ne!(same_openings(other, &full), 0, "{homes:?} {other:?}");
+            }
+        }
+    }
 }

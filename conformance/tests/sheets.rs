@@ -10,8 +10,10 @@ use std::path::{Path, PathBuf};
 use std::process::{Command, Output, Stdio};
 use std::thread;
 
-use reference::generate::{price, sheet, styled, Rng, Style};
-use reference::layout::MAX_PRICE;
+use reference::generate::factory::{self, FITTED, GOLDEN};
+use reference::generate::{homes, price, sheet, styled, Rng, Style};
+use reference::layout::{label_of, price_of, Homes, MAX_PRICE};
+use reference::phase::{LOOK_UP, TAKE_OUT};
 use reference::sheet::replay_bytes;
 
 fn program() -> PathBuf {
@@ -25,7 +27,13 @@ fn program() -> PathBuf {
 const PACKET: usize = 4096;
 
 /// The longest readable line.
-const LONGEST: &[u8] = b"item\t4294967295\t4294967295\t4294967295";
+const LONGEST: &[u8] = b"open\t4294967295\t4294967295\t4294967295\t4294967295";
+
+/// The longest line that opens a shift.
+const LONGEST_OPEN: &[u8] = b"open\t1\t16\t4294967295\t4294967295";
+
+/// The longest readable item.
+const LONGEST_ITEM: &[u8] = b"item\t4294967295\t4294967295\t4294967295";
 
 /// The longest readable order, in a shift that does not put in.
 const LONGEST_ORDER: &[u8] = b"order\t4294967295\t4294967295";
@@ -33,8 +41,9 @@ const LONGEST_ORDER: &[u8] = b"order\t4294967295\t4294967295";
 /// The most items of a list.
 const ITEMS: usize = 1024;
 
-/// Bytes of a block: very few, around those that are kept of a line (one more than the longest readable line has), and a whole packet.
-const CUTS: [usize; 7] = [1, 2, 3, LONGEST.len(), LONGEST.len() + 1, LONGEST.len() + 2, PACKET];
+/// Bytes of a block: very few, around those that are kept of a line (one more than the longest word with four numbers has, or a byte less, as the
+/// longest readable line), and a whole packet.
+const CUTS: [usize; 8] = [1, 2, 3, LONGEST.len(), LONGEST.len() + 1, LONGEST.len() + 2, LONGEST.len() + 3, PACKET];
 
 /// As large blocks as an ordinary pipe takes.
 const WHOLE: usize = usize::MAX;
@@ -125,7 +134,7 @@ fn stored_sheets() {
     let mut sheets: Vec<PathBuf> = fs::read_dir(folder).expect("the stored sheets").map(|e| e.expect("an entry").path()).collect();
     sheets.retain(|p| p.extension().is_some_and(|e| e == "sheet"));
     sheets.sort();
-    assert!(sheets.len() >= 50, "{} stored sheets", sheets.len());
+    assert!(sheets.len() >= 68, "{} stored sheets", sheets.len());
     for path in sheets {
         let input = fs::read(&path).expect("a sheet");
         let expected = fs::read(path.with_extension("out")).expect("its output");
@@ -141,14 +150,21 @@ fn long_and_strange_input() {
     let mut order_million = b"order\t".to_vec();
     order_million.extend(vec![b'1'; 1_000_000]);
     let mut after = order_million.clone();
-    after.extend(b"\nitem\t0\t2\t1\ncells\t3\nopen\t1\t1\norder\t0\nrun\nclose\nlist\n");
-    let longest = [LONGEST, b"\n", LONGEST, b"\ncells\t3\nopen\t1\t16\nlist\n"].concat();
+    after.extend(b"\nitem\t0\t2\t1\ncells\t3\nopen\t1\t1\t1\t0\norder\t0\nrun\nclose\nlist\n");
+    let longest = [LONGEST, b"\n", LONGEST, b"\ncells\t3\n", LONGEST, b"\nlist\n"].concat();
     let one_more = [LONGEST, b"0\nlist\n"].concat();
-    let opened = b"cells\t3\nopen\t2\t16\n";
+    let longest_open = [b"cells\t3\n", LONGEST_OPEN, b"\nturn\t0\nclose\n", LONGEST_OPEN, b"\n", LONGEST_OPEN, b"\nlist\n"].concat();
+    let open_one_more = [b"cells\t3\n", LONGEST_OPEN, b"0\nlist\n"].concat();
+    let longest_item = [LONGEST_ITEM, b"\n", LONGEST_ITEM, b"\ncells\t3\nopen\t1\t16\t1\t0\nlist\n"].concat();
+    let item_one_more = [LONGEST_ITEM, b"0\nlist\n"].concat();
+    let opened = b"cells\t3\nopen\t2\t16\t1\t0\n";
     let longest_order = [opened, LONGEST_ORDER, b"\n", LONGEST_ORDER, b"\nlist\n"].concat();
     let order_one_more = [opened, LONGEST_ORDER, b"0\nlist\n"].concat();
-    let shut = [LONGEST_ORDER, b"\n", LONGEST_ORDER, b"0\n", LONGEST_ORDER, b"\t4294967295\nlist"].concat();
-    let many: Vec<u8> = b"cells\t4096\nopen\t1\t16\n".iter().copied().chain(b"turn\t3\n".repeat(300_000)).collect();
+    let three = [LONGEST_ORDER, b"\t4294967295"].concat();
+    let four = [&three[..], b"\t4294967295"].concat();
+    let shut = [LONGEST_ORDER, b"\n", LONGEST_ORDER, b"0\n", &three, b"\n", &four, b"\n", &four, b"0\n", &four, b"\t\nlist"].concat();
+    let four_numbers = [opened, &four[..], b"\nlist\n"].concat();
+    let many: Vec<u8> = b"cells\t4096\nopen\t1\t16\t1\t0\n".iter().copied().chain(b"turn\t3\n".repeat(300_000)).collect();
     for (name, input) in [
         ("no input", &b""[..]),
         ("one newline", b"\n"),
@@ -160,8 +176,13 @@ fn long_and_strange_input() {
         ("the same, and the sheet goes on", &after),
         ("the longest readable line", &longest),
         ("one byte more", &one_more),
+        ("the longest line that opens", &longest_open),
+        ("one byte more", &open_one_more),
+        ("the longest readable item", &longest_item),
+        ("one byte more", &item_one_more),
         ("the longest readable order", &longest_order),
         ("one byte more", &order_one_more),
+        ("an order with four numbers", &four_numbers),
         ("longer orders in a shut shift", &shut),
         ("300,000 turns", &many),
     ] {
@@ -170,13 +191,13 @@ fn long_and_strange_input() {
 }
 
 /// Lines that put in keys with their prices by sixteen workers, sixteen orders to a run, in as few shifts as the items allow.
-fn put_in(text: &mut Vec<u8>, cells: usize, entries: impl Iterator<Item = (u32, u32)>) {
+fn put_in(text: &mut Vec<u8>, cells: usize, Homes { a, b }: Homes, entries: impl Iterator<Item = (u32, u32)>) {
     text.extend(format!("cells\t{cells}\n").bytes());
     for list in entries.collect::<Vec<_>>().chunks(ITEMS) {
         for (i, (key, price)) in list.iter().enumerate() {
             text.extend(format!("item\t{}\t{key}\t{price}\n", i % 16).bytes());
         }
-        text.extend(b"open\t1\t16\n");
+        text.extend(format!("open\t1\t16\t{a}\t{b}\n").bytes());
         for place in 0..list.len() {
             text.extend(format!("order\t{place}\n").bytes());
             if place % 16 == 15 {
@@ -195,9 +216,9 @@ fn most_items() {
         let mut text = b"cells\t2\n".to_vec();
         for _ in 0..2 {
             items(&mut text, before);
-            text.extend(b"open\t1\t17\nopen\t3\t1\nclose\n");
+            text.extend(b"open\t1\t17\t1\t0\nopen\t3\t1\t1\t0\nclose\n");
             items(&mut text, after);
-            text.extend(b"open\t1\t16\n");
+            text.extend(b"open\t1\t16\t1\t0\n");
             for place in [ITEMS, ITEMS - 1, 1, 0] {
                 text.extend(format!("order\t{place}\nrun\nlist\n").bytes());
             }
@@ -213,8 +234,8 @@ fn most_items() {
 #[test]
 fn largest_table() {
     let mut text = Vec::new();
-    put_in(&mut text, 4096, (0..4095).map(|i| (u32::MAX - i, MAX_PRICE - i)));
-    text.extend(b"list\nlist\nopen\t2\t16\norder\t3\t4294967295\nrun\nclose\nlist\n");
+    put_in(&mut text, 4096, Homes::PLAIN, (0..4095).map(|i| (u32::MAX - i, MAX_PRICE - i)));
+    text.extend(b"list\nlist\nopen\t2\t16\t1\t0\norder\t3\t4294967295\nrun\nclose\nlist\n");
     let expected = replay_bytes(&text);
     let longest = expected.split(|&b| b == b'\n').map(<[u8]>::len).max();
     assert!(longest > Some(4095 * "\t4294967295\t9999999".len()), "{longest:?}");
@@ -227,7 +248,7 @@ fn long_output() {
     let random = &mut Rng::new(5);
     let mut text = Vec::new();
     for (cells, keys, lists) in [(4096, 4095, 60), (1000, 700, 300), (300, 40, 5000)] {
-        put_in(&mut text, cells, (0..keys).map(|_| (1 + random.below(u32::MAX as usize) as u32, price(random))));
+        put_in(&mut text, cells, homes(random), (0..keys).map(|_| (1 + random.below(u32::MAX as usize) as u32, price(random))));
         for _ in 0..lists {
             text.extend(b"list\n");
             text.extend(b"turn\t0\n".repeat(random.below(9)));
@@ -242,8 +263,8 @@ fn long_output() {
 #[test]
 fn many_prices() {
     let mut text = Vec::new();
-    put_in(&mut text, 4096, (0..4095).map(|i| (7 + 9 * i, 1 + i * 2441)));
-    text.extend(b"open\t3\t16\n");
+    put_in(&mut text, 4096, Homes::PLAIN, (0..4095).map(|i| (7 + 9 * i, 1 + i * 2441)));
+    text.extend(b"open\t3\t16\t1\t0\n");
     for i in 0..4095 {
         text.extend(format!("order\t{}\t{}\n", i % 16, 7 + 9 * i).bytes());
         match i % 48 {
@@ -254,6 +275,46 @@ fn many_prices() {
     }
     text.extend(b"run\nclose\n");
     same_cut("many prices", &text, &replay_bytes(&text));
+}
+
+/// The label factory's shifts on a sheet, with homes that crowd and homes that spread: filled, listed, opened under others, looked up and emptied.
+#[test]
+fn the_factory() {
+    const LABELS: usize = 900;
+    let orders = factory::orders(LABELS);
+    let all = [Homes::PLAIN, GOLDEN, FITTED];
+    let mut listed = Vec::new();
+    for homes in all {
+        let Homes { a, b } = homes;
+        let mut text = Vec::new();
+        put_in(&mut text, factory::CELLS, homes, orders.iter().map(|order| (order.label, order.price)));
+        text.extend(b"list\n");
+        for Homes { a, b } in all.into_iter().filter(|&other| other != homes) {
+            text.extend(format!("open\t3\t16\t{a}\t{b}\nlist\n").bytes());
+        }
+        for kind in [LOOK_UP, TAKE_OUT] {
+            text.extend(format!("open\t{kind}\t16\t{a}\t{b}\n").bytes());
+            for (i, order) in orders.iter().enumerate() {
+                text.extend(format!("order\t{}\t{}\n", order.worker, order.label).bytes());
+                if i % 16 == 15 {
+                    text.extend(b"run\n");
+                }
+            }
+            text.extend(b"run\nclose\nlist\n");
+        }
+        let expected = replay_bytes(&text);
+        let printed = String::from_utf8(expected.clone()).expect("text");
+        assert!(printed.ends_with("\t0\n") && !printed.contains("bad"));
+        assert!(printed.contains("\trefused\t17\n") || printed.contains("\trefused\t18\n"));
+        let cells = factory::table(homes, LABELS).into_iter().filter(|&cell| cell != 0);
+        let list: String = cells.map(|cell| format!("\t{}\t{}", label_of(cell), price_of(cell))).collect();
+        let list = format!("\t{LABELS}{list}\n");
+        // once it is filled, after each refused opening and after the look-ups
+        assert_eq!(printed.matches(&list).count(), 4, "{homes:?}");
+        listed.push(list);
+        same_cut("the factory", &text, &expected);
+    }
+    assert!(listed[0] != listed[1] && listed[0] != listed[2] && listed[1] != listed[2]);
 }
 
 /// Sheets of many packets.
@@ -322,7 +383,7 @@ fn closed_input() {
 /// Input that fails behind some lines; none of them is answered wrongly.
 #[test]
 fn input_that_breaks_off() {
-    let text = b"item\t0\t2\t1\ncells\t3\nopen\t1\t1\norder\t0\nrun\nclose\nlist\n";
+    let text = b"item\t0\t2\t1\ncells\t3\nopen\t1\t1\t1\t0\norder\t0\nrun\nclose\nlist\n";
     let (mut ours, mut theirs) = UnixStream::pair().expect("a pair of sockets");
     // our end is closed with a byte unread: the other end's reads fail once they have brought all that we wrote
     theirs.write_all(b"x").expect("a byte sent");
@@ -336,7 +397,7 @@ fn input_that_breaks_off() {
 /// Where no byte can be written, the program says so once and ends, on a short sheet and on one whose output fills its buffer many times.
 #[test]
 fn a_full_device_as_output() {
-    let many: Vec<u8> = b"cells\t4096\nopen\t1\t16\n".iter().copied().chain(b"turn\t3\n".repeat(300_000)).collect();
+    let many: Vec<u8> = b"cells\t4096\nopen\t1\t16\t1\t0\n".iter().copied().chain(b"turn\t3\n".repeat(300_000)).collect();
     for text in [&b"cells\t3\nlist\n"[..], b"list", &many] {
         let full = File::options().write(true).open("/dev/full").expect("/dev/full");
         said(&run(text, WHOLE, full.into()), UNWRITTEN);

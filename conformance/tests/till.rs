@@ -7,8 +7,8 @@ use std::time::{Duration, Instant};
 use conformance::shifts::{closed, dealt, Entry};
 use conformance::{close, read_till, reference_read_till, reference_run, Calls, Orders, REFUSED};
 use reference::generate::till::{all_texts, damaged, good, nick, number, written, Quotes, BYTES, PIECES};
-use reference::generate::{price, table, Rng};
-use reference::layout::{content, label_of, layout, Prices, MAX_PRICE};
+use reference::generate::{homes, price, table, Rng};
+use reference::layout::{content, label_of, layout, Homes, Prices, MAX_PRICE};
 use reference::phase::{Order, Phase, PUT_IN};
 
 /// Worker counts that get 2.
@@ -428,32 +428,32 @@ fn orders_of(text: &[u8], crew: u32, records: usize) -> Vec<Order> {
 }
 
 /// What a put-in opening answers with these orders, in both forms of the list.
-fn opening(crew: u32, table: &[u64], orders: &[Order]) -> u64 {
+fn opening(crew: u32, homes: Homes, table: &[u64], orders: &[Order]) -> u64 {
     let lent = Orders::of(orders);
-    let answer = lent.open(1, crew.into(), table);
+    let answer = lent.open(1, crew.into(), homes, table);
     let mut cells = table.to_vec();
-    assert_eq!(Calls::default().run(1, crew.into(), &mut cells, &lent, &mut []), answer);
+    assert_eq!(Calls::default().run(1, crew.into(), homes, &mut cells, &lent, &mut []), answer);
     assert_eq!(cells, table);
     answer
 }
 
 /// A text read, the shift opened with its list, every line ordered and the turns dealt as chance has it, closed: each label stands at the least
 /// price of the table and the text, in the layout.
-fn from_text_to_table(random: &mut Rng, table: &[u64], crew: u32, entries: &[Entry]) {
+fn from_text_to_table(random: &mut Rng, homes: Homes, table: &[u64], crew: u32, entries: &[Entry]) {
     let (quotes, ended) = (random.pick(&[Quotes::Never, Quotes::Mixed, Quotes::Always]), random.once_in(2));
     let text = written(random, entries, quotes, ended);
     let orders = orders_of(&text, crew, entries.len());
-    assert_eq!(opening(crew, table, &orders), 0);
-    let calls = dealt(random, PUT_IN, crew, table, &orders);
+    assert_eq!(opening(crew, homes, table, &orders), 0);
+    let calls = dealt(random, PUT_IN, crew, homes, table, &orders);
     let (lent, list) = (Orders::of(&orders), Calls::of(&calls));
     let (mut expected, mut told) = (table.to_vec(), vec![0; calls.len()]);
-    assert_eq!(reference_run(1, crew.into(), &mut expected, &orders, &calls, &mut told), 0);
+    assert_eq!(reference_run(1, crew.into(), homes, &mut expected, &orders, &calls, &mut told), 0);
     assert_eq!(told.last(), Some(&0), "the close");
-    assert_eq!(expected, closed(PUT_IN, table, entries));
+    assert_eq!(expected, closed(PUT_IN, homes, table, entries));
     for run in [Calls::run, Calls::run_singly] {
         let (mut cells, mut answers) = (table.to_vec(), vec![1; calls.len()]);
-        assert_eq!(run(&list, 1, crew.into(), &mut cells, &lent, &mut answers), 0);
-        assert_eq!(cells, expected, "{crew} workers, {table:?}, {entries:?}");
+        assert_eq!(run(&list, 1, crew.into(), homes, &mut cells, &lent, &mut answers), 0);
+        assert_eq!(cells, expected, "{crew} workers, {homes:?}, {table:?}, {entries:?}");
         assert_eq!(answers, told);
     }
 }
@@ -463,7 +463,8 @@ fn texts_become_tables() {
     let random = &mut Rng::new(12);
     for _ in 0..3000 {
         let cells = random.within(2, 30);
-        let table = table(random, cells);
+        let homes = homes(random);
+        let table = table(random, homes, cells);
         let mut known: Vec<u32> = table.iter().map(|&cell| label_of(cell)).filter(|&label| label > 0).collect();
         while known.is_empty() || known.len() + 1 < cells && !random.once_in(4) {
             let label = random.within(1, 3 * cells) as u32;
@@ -473,7 +474,7 @@ fn texts_become_tables() {
         }
         let entries: Vec<Entry> = (0..random.within(1, 2 * cells)).map(|_| (random.pick(&known), price(random))).collect();
         let crew = random.within(1, 16) as u32;
-        from_text_to_table(random, &table, crew, &entries);
+        from_text_to_table(random, homes, &table, crew, &entries);
     }
 }
 
@@ -482,8 +483,8 @@ fn texts_become_tables() {
 fn some_tables() {
     let random = &mut Rng::new(13);
     let example = [(3, 1), (8, 1), (13, 1), (4, 1)];
-    from_text_to_table(random, &[0; 5], 2, &example);
-    assert_eq!(closed(PUT_IN, &[0; 5], &example), [4, 3, 0, 13, 8].map(|x| content(x, x.min(1))));
+    from_text_to_table(random, Homes::PLAIN, &[0; 5], 2, &example);
+    assert_eq!(closed(PUT_IN, Homes::PLAIN, &[0; 5], &example), [4, 3, 0, 13, 8].map(|x| content(x, x.min(1))));
     for (cells, labels, crew) in [(500, 499, 1), (500, 499, 16), (8192, 6000, 16)] {
         let mut set = Prices::new();
         while set.len() < labels {
@@ -491,9 +492,9 @@ fn some_tables() {
         }
         let mut entries: Vec<Entry> = set.iter().map(|(&label, &price)| (label, price)).collect();
         random.shuffle(&mut entries);
-        from_text_to_table(random, &vec![0; cells], crew, &entries);
+        from_text_to_table(random, Homes::PLAIN, &vec![0; cells], crew, &entries);
         let sent_again: Vec<Entry> = entries.iter().map(|&(label, _)| (label, price(random))).collect();
-        from_text_to_table(random, &layout(cells, &set), crew, &sent_again);
+        from_text_to_table(random, Homes::PLAIN, &layout(Homes::PLAIN, cells, &set), crew, &sent_again);
     }
 }
 
@@ -506,21 +507,21 @@ fn values_are_checked_at_the_opening() {
     {
         for crew in [1, 3, 16] {
             let orders = orders_of(text.as_bytes(), crew, records);
-            assert_eq!(opening(crew, &table, &orders), REFUSED + number, "{text:?}");
-            assert_eq!(Phase::open(1, crew.into(), &table, &orders).map(|_| ()), Err(number as u8));
+            assert_eq!(opening(crew, Homes::PLAIN, &table, &orders), REFUSED + number, "{text:?}");
+            assert_eq!(Phase::open(1, crew.into(), Homes::PLAIN, &table, &orders).map(|_| ()), Err(number as u8));
         }
     }
     for (records, answer) in [(65_535, 0), (65_536, 0), (65_537, REFUSED + 16), (100_000, REFUSED + 16)] {
         let orders = orders_of(format!("7,{MAX_PRICE}\r\n").repeat(records).as_bytes(), 16, records);
-        assert_eq!(opening(16, &table, &orders), answer);
+        assert_eq!(opening(16, Homes::PLAIN, &table, &orders), answer);
     }
     // dealt to more workers than the shift has
     let orders = orders_of(b"7,1\r\n7,2\r\n7,3", 3, 3);
     for (crew, answer) in [(1, REFUSED + 6), (2, REFUSED + 6), (3, 0), (16, 0)] {
-        assert_eq!(opening(crew, &table, &orders), answer);
+        assert_eq!(opening(crew, Homes::PLAIN, &table, &orders), answer);
     }
     // a shift without orders
     let mut cells = table;
-    assert_eq!(Calls::of(&[close()]).run(1, 3, &mut cells, &Orders::of(&orders), &mut [0]), 0);
+    assert_eq!(Calls::of(&[close()]).run(1, 3, Homes::PLAIN, &mut cells, &Orders::of(&orders), &mut [0]), 0);
     assert_eq!(cells, table);
 }

@@ -5,9 +5,11 @@
  *
  * A cell is a number of 64 bits: a key (1 to 4,294,967,295) times 4,294,967,296, plus its price in cents; 0 is an empty cell.
  * A price is 1 to 9,999,999. A table has 2 to 8,192 cells.
- * The home of a key is its number modulo the number of cells; its probe path is the cells from its home up to, not including, its own, with
- * cell 0 after the last one. A table is sound if a cell is empty, every other one has a key and a price within these limits, and the probe path
- * of every key holds only greater keys.
+ * The home of a key is computed from two numbers, a and b: it is (a times key plus b) modulo 4,294,967,296, then modulo the number of cells.
+ * a is odd; with a 1 and b 0 the home is the key modulo the number of cells. The probe path of a key is the cells from its home up to, not
+ * including, its own, with cell 0 after the last one. A table is sound by a and b if a cell is empty, every other one has a key and a price
+ * within these limits, and the probe path of every key holds only greater keys.
+ * Lend a table with the a and b by which it was closed: by others it is refused, unless it is sound by them too.
  *
  * Every answer is one number of 64 bits: below VULZEGAN_REFUSED it is a value, from there up to VULZEGAN_WORDS a refusal, from there on a word.
  */
@@ -24,7 +26,7 @@ extern "C" {
 /* Values: a count, the price that a find found, or VULZEGAN_ACCEPTED where a call gives no value and is not refused. */
 #define VULZEGAN_ACCEPTED UINT64_C(0)
 
-/* Refusals: VULZEGAN_REFUSED + the number of documents 01 and 02, 1 to 20. A refusal changes nothing. */
+/* Refusals: VULZEGAN_REFUSED + the number of documents 01 and 02, 1 to 21. A refusal changes nothing. */
 #define VULZEGAN_REFUSED UINT64_C(4294967296)
 
 /* The refusals of a table that is not sound. UNSOUND: no cell is empty, or some cell other than 0 has no key or a price outside the limits.
@@ -38,6 +40,9 @@ extern "C" {
 #define VULZEGAN_BAD_RECORD (VULZEGAN_REFUSED + 19)
 #define VULZEGAN_BAD_FIELD (VULZEGAN_REFUSED + 20)
 
+/* The refusal of an even a, in every function that takes a: at opening behind 1, 2 and 3 and before 16 and all others, elsewhere behind 1. */
+#define VULZEGAN_EVEN (VULZEGAN_REFUSED + 21)
+
 /* Words: the answers of turns that are neither refused nor a price. */
 #define VULZEGAN_WORDS UINT64_C(8589934592)
 #define VULZEGAN_WENT_ON (VULZEGAN_WORDS + 1)
@@ -45,15 +50,15 @@ extern "C" {
 #define VULZEGAN_NO (VULZEGAN_WORDS + 4)
 #define VULZEGAN_IDLE (VULZEGAN_WORDS + 5)
 
-/* Whether the table is sound: VULZEGAN_ACCEPTED or a refusal. The time, as measured, is linear in the cells. This and the next two take some
- * 19 KB of stack. */
-uint64_t vulzegan_check(const uint64_t *cells, size_t cells_len);
+/* Whether the table is sound by a and b: VULZEGAN_ACCEPTED or a refusal. The time, as measured, is linear in the cells. This and the next
+ * two take some 19 KB of stack. */
+uint64_t vulzegan_check(uint32_t a, uint32_t b, const uint64_t *cells, size_t cells_len);
 
 /* How many keys the table has, or a refusal. */
-uint64_t vulzegan_count(const uint64_t *cells, size_t cells_len);
+uint64_t vulzegan_count(uint32_t a, uint32_t b, const uint64_t *cells, size_t cells_len);
 
 /* The same, and the cells that have a key, whole and in cell order, at the front of out. */
-uint64_t vulzegan_list(const uint64_t *cells, size_t cells_len, uint64_t *out, size_t out_len);
+uint64_t vulzegan_list(uint32_t a, uint32_t b, const uint64_t *cells, size_t cells_len, uint64_t *out, size_t out_len);
 
 /* A line of the list of orders: key at price for worker. */
 struct vulzegan_order {
@@ -62,10 +67,10 @@ struct vulzegan_order {
     uint32_t worker;
 };
 
-/* Whether a phase of a kind (1 insert, 2 delete, 3 find) with count workers opens on cells: VULZEGAN_ACCEPTED or a refusal.
+/* Whether a phase of a kind (1 insert, 2 delete, 3 find) with count workers opens on cells by a and b: VULZEGAN_ACCEPTED or a refusal.
  * An insert phase opens for a list of at most 65,536 orders, whose keys and those of the table, each counted once, are fewer than the cells.
  * The other kinds do not read the list. Opening takes some 185 KB of stack, here and below. */
-uint64_t vulzegan_open(uint64_t kind, uint64_t count, const uint64_t *cells, size_t cells_len,
+uint64_t vulzegan_open(uint64_t kind, uint64_t count, uint32_t a, uint32_t b, const uint64_t *cells, size_t cells_len,
                        const struct vulzegan_order *orders, size_t orders_len);
 
 /* The operations of a list of calls: an order, a turn of worker workers[i], and a close.
@@ -78,7 +83,7 @@ enum { VULZEGAN_ORDER = 1, VULZEGAN_TURN = 2, VULZEGAN_CLOSE = 3 };
  * If it opens, applies calls 0, 1, .. in order, as many as the shortest of ops, lines, workers, keys and answers has.
  * answers[i] takes the answer of call i: of an order or a close VULZEGAN_ACCEPTED or a refusal; of a turn a word, a refusal or,
  * where a find finishes and has found its key, the price of that key. */
-uint64_t vulzegan_run_calls(uint64_t kind, uint64_t count, uint64_t *cells, size_t cells_len,
+uint64_t vulzegan_run_calls(uint64_t kind, uint64_t count, uint32_t a, uint32_t b, uint64_t *cells, size_t cells_len,
                             const uint32_t *order_keys, size_t order_keys_len, const uint32_t *order_prices, size_t order_prices_len,
                             const uint32_t *order_workers, size_t order_workers_len,
                             const uint32_t *ops, size_t ops_len, const uint32_t *lines, size_t lines_len,
@@ -86,7 +91,7 @@ uint64_t vulzegan_run_calls(uint64_t kind, uint64_t count, uint64_t *cells, size
                             uint64_t *answers, size_t answers_len);
 
 /* The same, each call by value with the record tested at each, as single calls are: slower. */
-uint64_t vulzegan_run_calls_singly(uint64_t kind, uint64_t count, uint64_t *cells, size_t cells_len,
+uint64_t vulzegan_run_calls_singly(uint64_t kind, uint64_t count, uint32_t a, uint32_t b, uint64_t *cells, size_t cells_len,
                                    const uint32_t *order_keys, size_t order_keys_len, const uint32_t *order_prices, size_t order_prices_len,
                                    const uint32_t *order_workers, size_t order_workers_len,
                                    const uint32_t *ops, size_t ops_len, const uint32_t *lines, size_t lines_len,

@@ -7,12 +7,15 @@
 //! generator replays the shift, to know who is busy and what the table holds;
 //! this only steers its choices. A put-in shift comes behind its items; where
 //! they don't open it, a shift of another kind takes its place and they stay.
+//! A chapter has an a and b of its own; now and then a shift is tried with
+//! others, and goes on with them if they open it.
 
+pub mod factory;
 pub mod till;
 
 use std::collections::BTreeSet;
 
-use crate::layout::{content, label_of, layout, least_prices, Prices, EMPTY, MAX_PRICE};
+use crate::layout::{content, label_of, layout, least_prices, Homes, Prices, EMPTY, MAX_PRICE};
 use crate::phase::{Activity, Order, Phase, PUT_IN};
 use crate::refusal;
 
@@ -81,6 +84,92 @@ pub const WRONG_PRICES: [u32; 7] = [
     u32::MAX,
 ];
 
+/// Homes with an odd a: often document 01's, else numbers at the borders of
+/// the 32 bits, or any.
+pub fn homes(rng: &mut Rng) -> Homes {
+    const ODD: [u32; 8] = [
+        3,
+        5,
+        101,
+        (1 << 31) - 1,
+        (1 << 31) + 1,
+        2_654_435_769,
+        u32::MAX - 2,
+        u32::MAX,
+    ];
+    let a = match rng.below(4) {
+        0 => 1,
+        1 => rng.pick(&ODD),
+        _ => (rng.draw() >> 32) as u32 | 1,
+    };
+    Homes {
+        a,
+        b: number_to_add(rng),
+    }
+}
+
+/// Homes that no opening takes.
+pub fn even_homes(rng: &mut Rng) -> Homes {
+    let a = match rng.below(3) {
+        0 => (rng.draw() >> 32) as u32 & !1,
+        _ => rng.pick(&[0, 2, 4, 100, 1 << 31, 2_654_435_768, u32::MAX - 1]),
+    };
+    Homes {
+        a,
+        b: number_to_add(rng),
+    }
+}
+
+/// The b of some homes.
+fn number_to_add(rng: &mut Rng) -> u32 {
+    match rng.below(4) {
+        0 | 1 => 0,
+        2 => rng.pick(&[1, 2, 1 << 31, u32::MAX - 1, u32::MAX]),
+        _ => (rng.draw() >> 32) as u32,
+    }
+}
+
+/// Other homes than these for a table of so many cells: any, or some that
+/// differ only in multiples of the length, so that most labels keep their
+/// homes, or only by a step of one cell.
+pub fn other_homes(rng: &mut Rng, homes: Homes, cells: usize) -> Homes {
+    let Homes { a, b } = homes;
+    let cells = cells as u32;
+    let other = match rng.below(8) {
+        0 | 1 => Homes {
+            a,
+            b: b.wrapping_add(cells * rng.within(1, 9) as u32),
+        },
+        2 | 3 => Homes {
+            a: a.wrapping_add(2 * cells * rng.within(1, 9) as u32),
+            b,
+        },
+        4 => Homes {
+            a,
+            b: b.wrapping_add(1),
+        },
+        5 => Homes::PLAIN,
+        _ => self::homes(rng),
+    };
+    if other == homes {
+        return Homes { a, b: !b };
+    }
+    other
+}
+
+/// The one label, or 0, for which a times it plus b is this value modulo
+/// 4,294,967,296; a is odd. Those of values that are equal modulo the length
+/// share a home.
+pub fn label_with(Homes { a, b }: Homes, value: u32) -> u32 {
+    assert!(a % 2 == 1, "an even a has no inverse");
+    // Each step doubles the number of low bits in which this is the inverse.
+    let mut inverse = 1u32;
+    for _ in 0..5 {
+        inverse = inverse.wrapping_mul(2u32.wrapping_sub(a.wrapping_mul(inverse)));
+    }
+    inverse.wrapping_mul(value.wrapping_sub(b))
+}
+
 /// The labels of a table.
 fn labels_of(table: &[u64]) -> Vec<u32> {
     let labels = table.iter().map(|&cell| label_of(cell));
@@ -146,30 +235,38 @@ pub fn all_lists<T: Copy>(length: usize, of: &[T]) -> impl Iterator<Item = Vec<T
 }
 
 /// A sound table, often with one empty cell: the labels are spread, or in steps
-/// of 100, or the greatest, or all at home in a few cells side by side.
-pub fn table(rng: &mut Rng, cells: usize) -> Vec<u64> {
+/// of 100, or the greatest, or all at home in a few cells side by side. The a is
+/// odd.
+pub fn table(rng: &mut Rng, homes: Homes, cells: usize) -> Vec<u64> {
     let labels = match rng.once_in(3) {
         true => cells - 1,
         false => rng.below(cells),
     };
     let style = rng.below(4);
-    let (home, homes) = (rng.below(cells), rng.within(1, 8));
+    let (first, side_by_side) = (rng.below(cells), rng.within(1, 8));
     let mut prices = Prices::new();
     while prices.len() < labels {
         let label = match style {
             0 => rng.below(u32::MAX as usize) + 1,
             1 => 100 * rng.within(1, 1 << 25),
             2 => u32::MAX as usize - rng.below(4 * cells),
-            _ => cells * rng.within(1, 4 * cells) + (home + rng.below(homes)) % cells,
+            _ => {
+                let value = cells * rng.within(1, 4 * cells);
+                let home = (first + rng.below(side_by_side)) % cells;
+                label_with(homes, (value + home) as u32) as usize
+            }
         };
-        prices.insert(label as u32, price(rng));
+        let price = price(rng);
+        if label > 0 {
+            prices.insert(label as u32, price);
+        }
     }
-    layout(cells, &prices)
+    layout(homes, cells, &prices)
 }
 
 /// The sound table after some more shifts: labels less and labels more, a few
 /// of them or many.
-pub fn later(rng: &mut Rng, table: &[u64]) -> Vec<u64> {
+pub fn later(rng: &mut Rng, homes: Homes, table: &[u64]) -> Vec<u64> {
     let mut prices = least_prices(table.iter().copied());
     let mut labels = labels_of(table);
     rng.shuffle(&mut labels);
@@ -182,7 +279,7 @@ pub fn later(rng: &mut Rng, table: &[u64]) -> Vec<u64> {
             prices.insert(rng.within(1, 3 * table.len()) as u32, price(rng));
         }
     }
-    layout(table.len(), &prices)
+    layout(homes, table.len(), &prices)
 }
 
 /// A torn image: the front of one table, and from cell `cut` on the rest of
@@ -193,16 +290,16 @@ pub fn torn(front: &[u64], rest: &[u64], cut: usize) -> Vec<u64> {
 
 /// Puts a label into every empty cell: one that is at home there, so that the
 /// way rule holds as before, or any.
-pub fn fill(rng: &mut Rng, table: &mut [u64]) {
+pub fn fill(rng: &mut Rng, homes: Homes, table: &mut [u64]) {
     let cells = table.len();
     let anywhere = rng.once_in(2);
     for (at, cell) in table.iter_mut().enumerate() {
         if *cell == EMPTY {
             let label = match anywhere {
-                true => rng.within(1, 3 * cells),
-                false => cells * rng.within(1, 1000) + at,
+                true => rng.within(1, 3 * cells) as u32,
+                false => label_with(homes, (cells * rng.within(1, 1000) + at) as u32).max(1),
             };
-            *cell = content(label as u32, price(rng));
+            *cell = content(label, price(rng));
         }
     }
 }
@@ -225,13 +322,13 @@ pub fn overwrite(rng: &mut Rng, table: &mut [u64]) {
 
 /// A table that comes back to the repair bench: sound, torn, full or with some
 /// cells written over, or several of these.
-pub fn returned(rng: &mut Rng, cells: usize) -> Vec<u64> {
-    let mut image = table(rng, cells);
+pub fn returned(rng: &mut Rng, homes: Homes, cells: usize) -> Vec<u64> {
+    let mut image = table(rng, homes, cells);
     let what = rng.below(8);
     if matches!(what, 1..=3 | 7) {
         let other = match rng.once_in(2) {
-            true => later(rng, &image),
-            false => table(rng, cells),
+            true => later(rng, homes, &image),
+            false => table(rng, homes, cells),
         };
         image = torn(&image, &other, rng.below(cells + 1));
     }
@@ -241,7 +338,7 @@ pub fn returned(rng: &mut Rng, cells: usize) -> Vec<u64> {
         }
     }
     if what == 6 || what == 7 && rng.once_in(4) {
-        fill(rng, &mut image);
+        fill(rng, homes, &mut image);
     }
     image
 }
@@ -331,7 +428,11 @@ fn loose(rng: &mut Rng) -> Vec<u8> {
     let lines: Vec<String> = (0..rng.within(1, 60))
         .map(|_| match rng.below(14) {
             0 => format!("cells\t{}\n", rng.below(9)),
-            1 | 2 => format!("open\t{}\t{}\n", rng.below(5), rng.below(4)),
+            1 | 2 => {
+                let (kind, count) = (rng.below(5), rng.below(4));
+                let (a, b) = (rng.pick(&[0, 1, 1, 1, 2, 3, u32::MAX]), rng.below(4));
+                format!("open\t{kind}\t{count}\t{a}\t{b}\n")
+            }
             3 => format!("order\t{}\t{}\n", rng.below(4), rng.below(12)),
             4 => format!("order\t{}\n", rng.below(4)),
             5 | 6 => {
@@ -352,6 +453,8 @@ struct Sheet {
     text: Vec<u8>,
     table: Vec<u64>,
     phase: Phase,
+    /// Those of the last accepted opening.
+    homes: Homes,
     items: Vec<Order>,
 }
 
@@ -361,6 +464,7 @@ impl Sheet {
             text: Vec::new(),
             table: Vec::new(),
             phase: Phase::shut(),
+            homes: Homes::PLAIN,
             items: Vec::new(),
         }
     }
@@ -389,9 +493,12 @@ impl Sheet {
         }
     }
 
-    fn open(&mut self, kind: u32, workers: usize) -> Result<(), u8> {
-        self.line(&format!("open\t{kind}\t{workers}"));
-        self.phase = Phase::open(kind.into(), workers as u64, &self.table, &self.items)?;
+    fn open(&mut self, kind: u32, workers: usize, homes: Homes) -> Result<(), u8> {
+        let Homes { a, b } = homes;
+        self.line(&format!("open\t{kind}\t{workers}\t{a}\t{b}"));
+        let (table, items) = (&self.table, &self.items);
+        self.phase = Phase::open(kind.into(), workers as u64, homes, table, items)?;
+        self.homes = homes;
         Ok(())
     }
 
@@ -475,6 +582,7 @@ fn sound_sheet(rng: &mut Rng) -> Vec<u8> {
 
 /// The facts a chapter is written from.
 struct Chapter {
+    homes: Homes,
     /// Labels to order.
     pool: Vec<u32>,
     cells: usize,
@@ -484,6 +592,11 @@ struct Chapter {
 }
 
 fn plan(rng: &mut Rng, style: Style) -> Chapter {
+    let homes = match rng.once_in(3) {
+        true => Homes::PLAIN,
+        false => homes(rng),
+    };
+    let with = |value: u32| Some(label_with(homes, value)).filter(|&label| label > 0);
     let (cells, most_workers) = match style {
         Style::Crowded => (rng.within(2, 9), 4),
         Style::Wrap => (rng.within(3, 12), 4),
@@ -501,11 +614,12 @@ fn plan(rng: &mut Rng, style: Style) -> Chapter {
         Style::Crowded => (1..=3 * n).collect(),
         Style::Wrap => (1..=n)
             .flat_map(|turn| [turn * n - 1, turn * n - 2])
-            .filter(|&label| label > 0)
+            .filter_map(with)
             .collect(),
         Style::OneHome => {
             let home = rng.below(cells) as u32;
-            (1..=2 * n).map(|turn| turn * n + home).collect()
+            let values = (1..=2 * n).map(|turn| turn * n + home);
+            values.filter_map(with).collect()
         }
         Style::Hundreds => (1..=2 * n).map(|step| step * 100).collect(),
         Style::Greatest => (0..2 * n).map(|less| u32::MAX - less).chain(1..4).collect(),
@@ -529,6 +643,7 @@ fn plan(rng: &mut Rng, style: Style) -> Chapter {
         _ => 8,
     };
     Chapter {
+        homes,
         pool,
         cells,
         most_workers,
@@ -600,18 +715,33 @@ fn items(rng: &mut Rng, plan: &Chapter, workers: usize, sheet: &mut Sheet) {
 }
 
 /// Opens a put-in shift with its items, if they open one.
-fn open_put_in(rng: &mut Rng, workers: usize, sheet: &mut Sheet) -> bool {
-    if rng.once_in(10) && sheet.open(PUT_IN, rng.within(1, workers)).is_ok() {
+fn open_put_in(rng: &mut Rng, workers: usize, homes: Homes, sheet: &mut Sheet) -> bool {
+    if rng.once_in(10) && sheet.open(PUT_IN, rng.within(1, workers), homes).is_ok() {
         return true;
     }
-    match sheet.open(PUT_IN, workers) {
-        Err(refusal::NO_WORKER) => sheet.open(PUT_IN, 16).is_ok(),
+    match sheet.open(PUT_IN, workers, homes) {
+        Err(refusal::NO_WORKER) => sheet.open(PUT_IN, 16, homes).is_ok(),
         answer => answer.is_ok(),
     }
 }
 
+/// Opens a shift of the kind, if it can be had, or of another, with the homes of
+/// the table.
+fn open_some(rng: &mut Rng, kind: u32, workers: usize, homes: Homes, sheet: &mut Sheet) {
+    if kind == PUT_IN && open_put_in(rng, workers, homes, sheet) {
+        return;
+    }
+    let kind = match kind {
+        PUT_IN => rng.pick(&[2, 2, 3]),
+        _ => kind,
+    };
+    sheet
+        .open(kind, workers, homes)
+        .expect("the shift is shut and its table sound");
+}
+
 /// A shift from its opening to its close, with mistakes that are refused.
-fn shift(rng: &mut Rng, plan: &Chapter, mut kind: u32, sheet: &mut Sheet) {
+fn shift(rng: &mut Rng, plan: &Chapter, kind: u32, sheet: &mut Sheet) {
     if rng.once_in(5) {
         shut_mistake(rng, sheet);
     }
@@ -624,19 +754,24 @@ fn shift(rng: &mut Rng, plan: &Chapter, mut kind: u32, sheet: &mut Sheet) {
     if kind == PUT_IN && !rng.once_in(10) || rng.once_in(10) {
         items(rng, plan, workers, sheet);
     }
-    if kind == PUT_IN && !open_put_in(rng, workers, sheet) {
-        kind = rng.pick(&[2, 2, 3]);
-    }
-    if kind != PUT_IN {
-        sheet
-            .open(kind, workers)
-            .expect("the shift is shut and its table sound");
+    // The table is sound by the homes of its last shift, an empty one by all.
+    let homes = match sheet.table.iter().all(|&cell| cell == EMPTY) {
+        true => plan.homes,
+        false => sheet.homes,
+    };
+    let refused = rng.once_in(10) && sheet.open(kind, workers, even_homes(rng)).is_err();
+    let other = rng.once_in(6).then(|| other_homes(rng, homes, plan.cells));
+    if other.is_none_or(|other| sheet.open(kind, workers, other).is_err()) {
+        if (refused || other.is_some()) && rng.once_in(2) {
+            sheet.line("list");
+        }
+        open_some(rng, kind, workers, homes, sheet);
     }
     if rng.once_in(12) {
         sheet.close();
         return;
     }
-    let workers = sheet.phase.count;
+    let (kind, workers) = (sheet.phase.kind, sheet.phase.count);
     // The labels to order: those of the pool, or those in the table, or few.
     let present = labels_of(&sheet.table);
     let labels = match rng.below(8) {
@@ -801,12 +936,18 @@ fn shut_mistake(rng: &mut Rng, sheet: &mut Sheet) {
         1 => "close".to_string(),
         2 => format!("turn\t{}", rng.pick(&[0, 1, 16, u32::MAX])),
         3 => format!("order\t{}", rng.below(20)),
-        4 => format!("open\t{}\t1", rng.pick(&[0, 4, 5, u32::MAX])),
-        5 => format!(
-            "open\t{}\t{}",
-            rng.below(5),
-            rng.pick(&[0, 17, 18, u32::MAX])
-        ),
+        4 | 5 => {
+            // Refused by its kind or its count, whatever a is.
+            let (kind, count) = match rng.once_in(2) {
+                true => (rng.pick(&[0, 4, 5, u32::MAX]), 1),
+                false => (rng.below(5) as u32, rng.pick(&[0, 17, 18, u32::MAX])),
+            };
+            let Homes { a, b } = match rng.once_in(2) {
+                true => even_homes(rng),
+                false => homes(rng),
+            };
+            format!("open\t{kind}\t{count}\t{a}\t{b}")
+        }
         6 | 7 => format!(
             "cells\t{}",
             rng.pick(&[0, 1, 4097, 8192, 8193, 65536, u32::MAX])
@@ -897,8 +1038,10 @@ fn damage(rng: &mut Rng, text: &mut Vec<u8>) {
             let new = rng.pick(&[
                 "cells\t5",
                 "cells\t1",
+                "open\t1\t1\t1\t0",
+                "open\t1\t1\t2\t0",
+                "open\t9\t99\t3\t7",
                 "open\t1\t1",
-                "open\t9\t99",
                 "cells",
                 "item\t0\t1\t1",
                 "item\t0\t0\t0",
@@ -951,8 +1094,20 @@ fn whole_line(rng: &mut Rng) -> Vec<u8> {
         "open",
         "open\t1",
         "open\t1\t",
+        "open\t1\t1",
         "open\t1\t1\t",
         "open\t1\t1\t1",
+        "open\t1\t1\t1\t",
+        "open\t1\t1\t\t0",
+        "open\t1\t1\t1\t0\t",
+        "open\t1\t1\t1\t0\t0",
+        "open\t1\t1\t01\t0",
+        "open\t1\t1\t1\t00",
+        "open\t1\t1\t1\t4294967296",
+        "open\t1\t1\t4294967297\t0",
+        "open\t1\t1\t-1\t0",
+        "open\t1\t1\t1\t0\r",
+        "open 1 1 1 0",
         "item",
         "item\t",
         "item\t0\t1",
@@ -989,6 +1144,8 @@ fn long_line(rng: &mut Rng) -> Vec<u8> {
         "order\t0\t",
         "item\t0\t1\t",
         "item\t",
+        "open\t1\t1\t1\t",
+        "open\t",
         "order\t",
         "cells\t",
         "run",

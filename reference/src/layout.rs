@@ -34,9 +34,37 @@ pub fn is_price(price: u32) -> bool {
     (MIN_PRICE..=MAX_PRICE).contains(&price)
 }
 
-/// The cell where a label's search starts in a table of `n` cells.
-pub fn home(label: u32, n: usize) -> usize {
-    label as usize % n
+/// The two numbers that a label's home is computed from.
+#[derive(Clone, Copy, Debug, PartialEq, Eq, Hash)]
+pub struct Homes {
+    pub a: u32,
+    pub b: u32,
+}
+
+/// A home is a value below this, modulo the length.
+const VALUES: u64 = 4_294_967_296;
+
+impl Homes {
+    /// The homes of document 01: a label's value is the label.
+    pub const PLAIN: Homes = Homes { a: 1, b: 0 };
+
+    /// a times the label plus b, modulo 4,294,967,296.
+    fn value(self, label: u32) -> u64 {
+        (u64::from(self.a) * u64::from(label) + u64::from(self.b)) % VALUES
+    }
+
+    /// The cell where a label's search starts in a table of `n` cells.
+    pub fn home(self, label: u32, n: usize) -> usize {
+        (self.value(label) % n as u64) as usize
+    }
+
+    /// May a shift be opened with them? An even a may not.
+    pub fn check(self) -> Result<(), u8> {
+        if self.a.is_multiple_of(2) {
+            return Err(refusal::EVEN);
+        }
+        Ok(())
+    }
 }
 
 /// The cell after `cell`, wrapping after the last.
@@ -66,15 +94,19 @@ fn distance(a: usize, b: usize, n: usize) -> usize {
     }
 }
 
+/// The number of cells on the way of `label` in cell `at`.
+pub fn way_length(homes: Homes, label: u32, at: usize, n: usize) -> usize {
+    distance(homes.home(label, n), at, n)
+}
+
 /// Does the way of `label` in cell `at` pass cell `k`?
-pub fn way_passes(label: u32, at: usize, k: usize, n: usize) -> bool {
-    let home = home(label, n);
-    distance(home, k, n) < distance(home, at, n)
+pub fn way_passes(homes: Homes, label: u32, at: usize, k: usize, n: usize) -> bool {
+    distance(homes.home(label, n), k, n) < way_length(homes, label, at, n)
 }
 
 /// Does the way of `label` in cell `at` hold only greater labels?
-pub fn way_is_greater(table: &[u64], label: u32, at: usize) -> bool {
-    let home = home(label, table.len());
+pub fn way_is_greater(homes: Homes, table: &[u64], label: u32, at: usize) -> bool {
+    let home = homes.home(label, table.len());
     let greater = |&other: &u64| label_of(other) > label;
     if home <= at {
         table[home..at].iter().all(greater)
@@ -85,8 +117,8 @@ pub fn way_is_greater(table: &[u64], label: u32, at: usize) -> bool {
 
 /// The first content from the home of `label` on that isn't greater; there has
 /// to be one.
-fn first_not_greater(table: &[u64], label: u32) -> u64 {
-    let mut cell = home(label, table.len());
+fn first_not_greater(homes: Homes, table: &[u64], label: u32) -> u64 {
+    let mut cell = homes.home(label, table.len());
     while label_of(table[cell]) > label {
         cell = next(cell, table.len());
     }
@@ -104,7 +136,7 @@ fn is_content(cell: u64) -> bool {
 /// the lowest-numbered cell whose label breaks the way rule decides, by the
 /// first content on its way that isn't greater: `GAP` if that is 0, `DISORDER`
 /// if it is a label.
-pub fn soundness(table: &[u64]) -> Result<(), u8> {
+pub fn soundness(homes: Homes, table: &[u64]) -> Result<(), u8> {
     if !table.contains(&EMPTY) {
         return Err(refusal::UNSOUND);
     }
@@ -115,12 +147,12 @@ pub fn soundness(table: &[u64]) -> Result<(), u8> {
         if !is_content(cell) {
             return Err(refusal::UNSOUND);
         }
-        if !way_is_greater(table, label_of(cell), at) {
+        if !way_is_greater(homes, table, label_of(cell), at) {
             // A cell wrong by itself goes before, also one further on.
             if !table[at..].iter().all(|&cell| is_content(cell)) {
                 return Err(refusal::UNSOUND);
             }
-            return Err(match first_not_greater(table, label_of(cell)) {
+            return Err(match first_not_greater(homes, table, label_of(cell)) {
                 EMPTY => refusal::GAP,
                 _ => refusal::DISORDER,
             });
@@ -130,8 +162,8 @@ pub fn soundness(table: &[u64]) -> Result<(), u8> {
 }
 
 /// Is the table sound?
-pub fn is_sound(table: &[u64]) -> bool {
-    soundness(table).is_ok()
+pub fn is_sound(homes: Homes, table: &[u64]) -> bool {
+    soundness(homes, table).is_ok()
 }
 
 /// For each label its least price.
@@ -153,12 +185,12 @@ pub fn least_prices(contents: impl IntoIterator<Item = u64>) -> Prices {
 /// smallest, each in the first empty cell from its home, with its price.
 ///
 /// Panics if the set holds 0 or hasn't fewer labels than cells.
-pub fn layout(n: usize, prices: &Prices) -> Vec<u64> {
+pub fn layout(homes: Homes, n: usize, prices: &Prices) -> Vec<u64> {
     assert!(prices.len() < n, "a layout needs an empty cell");
     assert!(!prices.contains_key(&0), "0 is no label");
     let mut table = vec![EMPTY; n];
     for (&label, &price) in prices.iter().rev() {
-        let mut cell = home(label, n);
+        let mut cell = homes.home(label, n);
         while table[cell] != EMPTY {
             cell = next(cell, n);
         }

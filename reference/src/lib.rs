@@ -36,4 +36,6 @@ pub mod refusal {
     pub const BAD_RECORD: u8 = 19;
     /// A field isn't a number.
     pub const BAD_FIELD: u8 = 20;
+    /// The a of the homes is even.
+    pub const EVEN: u8 = 21;
 }

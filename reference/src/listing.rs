@@ -1,6 +1,6 @@
 //! Check, count and list; they need no shift.
 
-use crate::layout::{label_of, soundness};
+use crate::layout::{label_of, soundness, Homes};
 use crate::phase::Phase;
 use crate::refusal;
 
@@ -8,11 +8,12 @@ use crate::refusal;
 pub const GROUP: usize = 64;
 
 /// Is the table sound?
-pub fn check(table: &[u64]) -> Result<(), u8> {
+pub fn check(homes: Homes, table: &[u64]) -> Result<(), u8> {
     if !(Phase::MIN_CELLS..=Phase::MAX_CELLS).contains(&table.len()) {
         return Err(refusal::SIZE);
     }
-    soundness(table)
+    homes.check()?;
+    soundness(homes, table)
 }
 
 /// The cells that hold a label, whole and in cell order.
@@ -21,15 +22,15 @@ fn labelled(table: &[u64]) -> impl Iterator<Item = u64> + '_ {
 }
 
 /// The number of labels.
-pub fn count(table: &[u64]) -> Result<usize, u8> {
-    check(table)?;
+pub fn count(homes: Homes, table: &[u64]) -> Result<usize, u8> {
+    check(homes, table)?;
     Ok(labelled(table).count())
 }
 
 /// Lists the cells with a label, in cell order, into the front of the lent
 /// list.
-pub fn list(table: &[u64], lent: &mut [u64]) -> Result<usize, u8> {
-    let count = count(table)?;
+pub fn list(homes: Homes, table: &[u64], lent: &mut [u64]) -> Result<usize, u8> {
+    let count = count(homes, table)?;
     if lent.len() < count {
         return Err(refusal::SHORT_LIST);
     }
@@ -40,8 +41,8 @@ pub fn list(table: &[u64], lent: &mut [u64]) -> Result<usize, u8> {
 }
 
 /// Lists and hands back the filled front part, empty where refused.
-pub fn list_front<'a>(table: &[u64], lent: &'a mut [u64]) -> &'a mut [u64] {
-    let count = list(table, lent).unwrap_or(0);
+pub fn list_front<'a>(homes: Homes, table: &[u64], lent: &'a mut [u64]) -> &'a mut [u64] {
+    let count = list(homes, table, lent).unwrap_or(0);
     &mut lent[..count]
 }
 

@@ -1,7 +1,7 @@
 //! A shift (phase): its record, and the calls open, order, turn and close.
 
 use crate::layout::{
-    before, content, home, is_price, label_of, next, price_of, soundness, way_passes, EMPTY,
+    before, content, is_price, label_of, next, price_of, soundness, way_passes, Homes, EMPTY,
 };
 use crate::refusal;
 
@@ -74,6 +74,7 @@ pub struct Phase {
     pub length: usize,
     pub count: usize,
     pub open: bool,
+    pub homes: Homes,
     pub workers: [Activity; Phase::MAX_WORKERS],
 }
 
@@ -91,13 +92,20 @@ impl Phase {
             length: 2,
             count: 1,
             open: false,
+            homes: Homes::PLAIN,
             workers: [Idle; Phase::MAX_WORKERS],
         }
     }
 
     /// Opens a shift on the table. A put-in shift is lent the list of orders;
     /// the other kinds don't read it.
-    pub fn open(kind: u64, count: u64, table: &[u64], orders: &[Order]) -> Result<Phase, u8> {
+    pub fn open(
+        kind: u64,
+        count: u64,
+        homes: Homes,
+        table: &[u64],
+        orders: &[Order],
+    ) -> Result<Phase, u8> {
         if !is_length(table.len()) {
             return Err(refusal::SIZE);
         }
@@ -107,11 +115,12 @@ impl Phase {
         if !(1..=3).contains(&kind) {
             return Err(refusal::KIND);
         }
+        homes.check()?;
         let kind = kind as u32;
         if kind == PUT_IN && orders.len() > Phase::MAX_ORDERS {
             return Err(refusal::LONG_LIST);
         }
-        soundness(table)?;
+        soundness(homes, table)?;
         if kind == PUT_IN {
             for order in orders {
                 order.check(count)?;
@@ -125,6 +134,7 @@ impl Phase {
             length: table.len(),
             count: count as usize,
             open: true,
+            homes,
             workers: [Idle; Phase::MAX_WORKERS],
         })
     }
@@ -169,7 +179,7 @@ impl Phase {
         }
         *activity = ReadingOn {
             entry: content(label, price),
-            cell: home(label, self.length),
+            cell: self.homes.home(label, self.length),
         };
         Ok(())
     }
@@ -191,7 +201,7 @@ impl Phase {
         let activity = &mut self.workers[worker as usize];
         Ok(match self.kind {
             PUT_IN => put_in(activity, table),
-            TAKE_OUT => take_out(activity, table),
+            TAKE_OUT => take_out(activity, self.homes, table),
             _ => look_up(activity, table),
         })
     }
@@ -369,7 +379,7 @@ fn look_up(activity: &mut Activity, table: &[u64]) -> Answer {
     }
 }
 
-fn take_out(activity: &mut Activity, table: &mut [u64]) -> Answer {
+fn take_out(activity: &mut Activity, homes: Homes, table: &mut [u64]) -> Answer {
     let n = table.len();
     match *activity {
         Idle => return Answer::Idle,
@@ -394,7 +404,7 @@ fn take_out(activity: &mut Activity, table: &mut [u64]) -> Answer {
                     cell: next(cell, n),
                     taken: None,
                 };
-            } else if cell == home(label_of(entry), n) {
+            } else if cell == homes.home(label_of(entry), n) {
                 *activity = Idle;
                 return Answer::Finished;
             } else {
@@ -412,7 +422,7 @@ fn take_out(activity: &mut Activity, table: &mut [u64]) -> Answer {
         } => {
             let content = table[cell];
             let label = label_of(content);
-            let fits = label == 0 || way_passes(label, cell, hole, n);
+            let fits = label == 0 || way_passes(homes, label, cell, hole, n);
             let taken = if fits { Some((content, cell)) } else { taken };
             *activity = match taken {
                 None => Seeking {

@@ -2,7 +2,7 @@
 
 use std::io::{self, BufRead, Write};
 
-use crate::layout::{label_of, price_of};
+use crate::layout::{label_of, price_of, Homes};
 use crate::listing;
 use crate::phase::{Activity, Answer, Order, Phase, PUT_IN};
 use crate::refusal;
@@ -18,7 +18,8 @@ const MAX_ITEMS: usize = 1024;
 enum Line {
     Cells(u32),
     Item(Order),
-    Open(u32, u32),
+    /// Kind, worker count, a and b.
+    Open(u32, u32, Homes),
     /// A place in the list, in a put-in shift.
     OrderItem(u32),
     /// Worker and label, in the others.
@@ -51,13 +52,13 @@ fn fields(line: &[u8]) -> impl Iterator<Item = &[u8]> {
 fn read_line(line: &[u8], kind: u32) -> Option<Line> {
     let mut fields = fields(line);
     let word = fields.next()?;
-    let mut numbers = [0; 3];
+    let mut numbers = [0; 4];
     let mut count = 0;
     for field in fields {
         *numbers.get_mut(count)? = read_number(field)?;
         count += 1;
     }
-    let [first, second, third] = numbers;
+    let [first, second, third, fourth] = numbers;
     match (word, count) {
         (b"cells", 1) => Some(Line::Cells(first)),
         (b"item", 3) => Some(Line::Item(Order {
@@ -65,7 +66,13 @@ fn read_line(line: &[u8], kind: u32) -> Option<Line> {
             label: second,
             price: third,
         })),
-        (b"open", 2) => Some(Line::Open(first, second)),
+        (b"open", 4) => {
+            let homes = Homes {
+                a: third,
+                b: fourth,
+            };
+            Some(Line::Open(first, second, homes))
+        }
         (b"order", 1) if kind == PUT_IN => Some(Line::OrderItem(first)),
         (b"order", 2) if kind != PUT_IN => Some(Line::Order(first, second)),
         (b"turn", 1) => Some(Line::Turn(first)),
@@ -91,6 +98,8 @@ enum Reply<'a> {
 struct Replay {
     table: Vec<u64>,
     phase: Phase,
+    /// Those of the last accepted opening.
+    homes: Homes,
     /// The list of the put-in shift that is open, or of the next.
     items: Vec<Order>,
     finishes: Vec<Option<Answer>>,
@@ -102,6 +111,7 @@ impl Replay {
         Replay {
             table: Vec::new(),
             phase: Phase::shut(),
+            homes: Homes::PLAIN,
             items: Vec::new(),
             finishes: Vec::new(),
             listed: Vec::new(),
@@ -121,7 +131,7 @@ impl Replay {
                 Ok(Reply::Ok)
             }
             Line::Cells(length) => self.cells(length).map(|()| Reply::Ok),
-            Line::Open(kind, count) => self.open(kind, count).map(|()| Reply::Ok),
+            Line::Open(kind, count, homes) => self.open(kind, count, homes).map(|()| Reply::Ok),
             Line::OrderItem(place) => self
                 .phase
                 .order(&self.items, place.into(), 0, 0)
@@ -138,7 +148,7 @@ impl Replay {
             Line::Close => self.close().map(|()| Reply::Ok),
             Line::List => {
                 self.listed.resize(self.table.len(), 0);
-                listing::list(&self.table, &mut self.listed)
+                listing::list(self.homes, &self.table, &mut self.listed)
                     .map(|count| Reply::Listed(&self.listed[..count]))
             }
         };
@@ -154,8 +164,9 @@ impl Replay {
         Ok(())
     }
 
-    fn open(&mut self, kind: u32, count: u32) -> Result<(), u8> {
-        self.phase = Phase::open(kind.into(), count.into(), &self.table, &self.items)?;
+    fn open(&mut self, kind: u32, count: u32, homes: Homes) -> Result<(), u8> {
+        self.phase = Phase::open(kind.into(), count.into(), homes, &self.table, &self.items)?;
+        self.homes = homes;
         Ok(())
     }
 

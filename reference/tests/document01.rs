@@ -1,6 +1,7 @@
-//! The sheet and the tables of document 01, with price 1 beside every label.
+//! The sheet and the tables of document 01, with price 1 beside every label and
+//! homes by a of 1 and b of 0.
 
-use reference::layout::{content, is_sound, layout, Prices};
+use reference::layout::{content, is_sound, layout, Homes, Prices};
 use reference::listing::{check, count, list, list_front, taken_word};
 use reference::phase::{Activity, Answer, Order, Phase, LOOK_UP, PUT_IN, TAKE_OUT};
 use reference::sheet::replay_bytes;
@@ -32,7 +33,7 @@ fn list_of(labels: &[u32]) -> Vec<Order> {
 
 /// Opens a shift without a list.
 fn open(kind: u64, count: u64, table: &[u64]) -> Result<Phase, u8> {
-    Phase::open(kind, count, table, &[])
+    Phase::open(kind, count, Homes::PLAIN, table, &[])
 }
 
 /// Gives a worker a label to take out or look up.
@@ -43,7 +44,8 @@ fn order(phase: &mut Phase, worker: u64, label: u32) -> Result<(), u8> {
 /// Opens a shift, gives each label to its worker, runs it and closes.
 fn shift(kind: u32, table: &mut [u64], labels: &[u32]) -> Vec<Answer> {
     let list = list_of(labels);
-    let mut phase = Phase::open(kind.into(), labels.len() as u64, table, &list).unwrap();
+    let mut phase =
+        Phase::open(kind.into(), labels.len() as u64, Homes::PLAIN, table, &list).unwrap();
     for (worker, &label) in (0..).zip(labels) {
         phase.order(&list, worker, worker, label).unwrap();
     }
@@ -74,7 +76,7 @@ item 0 3 1
 item 1 8 1
 item 0 13 1
 item 1 4 1
-open 1 2
+open 1 2 1 0
 order 0
 order 1
 run
@@ -111,9 +113,9 @@ fn the_sheet() {
 
 #[test]
 fn five_cells() {
-    let table = layout(5, &set(&[3, 4, 8, 13]));
+    let table = layout(Homes::PLAIN, 5, &set(&[3, 4, 8, 13]));
     assert_eq!(table, cells([4, 3, 0, 13, 8]));
-    assert!(is_sound(&table));
+    assert!(is_sound(Homes::PLAIN, &table));
     assert_eq!(taken_word(&table, 0), 27);
     assert_eq!(taken_word(&table, 1), 0);
 }
@@ -123,7 +125,7 @@ fn without_8() {
     let mut table = cells([4, 3, 0, 13, 8]);
     assert_eq!(shift(TAKE_OUT, &mut table, &[8]), [Answer::Finished]);
     assert_eq!(table, cells([3, 0, 0, 13, 4]));
-    assert_eq!(layout(5, &set(&[3, 4, 13])), table);
+    assert_eq!(layout(Homes::PLAIN, 5, &set(&[3, 4, 13])), table);
 }
 
 #[test]
@@ -142,17 +144,20 @@ fn eight_by_two_workers() {
 
 #[test]
 fn two_cells() {
-    let table = layout(2, &set(&[7]));
+    let table = layout(Homes::PLAIN, 2, &set(&[7]));
     assert_eq!(table, cells([0, 7]));
     // Document 02: the shift opens for a list of 7 alone.
-    assert!(Phase::open(1, 1, &table, &list_of(&[7])).is_ok());
-    assert_eq!(Phase::open(1, 1, &table, &list_of(&[1])), Err(9));
+    assert!(Phase::open(1, 1, Homes::PLAIN, &table, &list_of(&[7])).is_ok());
+    assert_eq!(
+        Phase::open(1, 1, Homes::PLAIN, &table, &list_of(&[1])),
+        Err(9)
+    );
 }
 
 #[test]
 fn greatest_label() {
     assert_eq!(
-        layout(5, &set(&[4294967295])),
+        layout(Homes::PLAIN, 5, &set(&[4294967295])),
         cells([4294967295, 0, 0, 0, 0])
     );
 }
@@ -167,12 +172,12 @@ fn unsound_tables() {
         ([5, 6, 7, 8, 9], 4),
     ] {
         let table = cells(table);
-        assert!(!is_sound(&table));
-        assert_eq!(check(&table), Err(number));
-        assert_eq!(count(&table), Err(number));
+        assert!(!is_sound(Homes::PLAIN, &table));
+        assert_eq!(check(Homes::PLAIN, &table), Err(number));
+        assert_eq!(count(Homes::PLAIN, &table), Err(number));
         let mut lent = [77; 1];
-        assert_eq!(list(&table, &mut lent), Err(number));
-        assert!(list_front(&table, &mut lent).is_empty());
+        assert_eq!(list(Homes::PLAIN, &table, &mut lent), Err(number));
+        assert!(list_front(Homes::PLAIN, &table, &mut lent).is_empty());
         assert_eq!(lent, [77]);
         for kind in 1..=3 {
             assert_eq!(open(kind, 1, &table), Err(number));
@@ -193,9 +198,9 @@ fn lengths() {
         for kind in 1..=3 {
             assert_eq!(open(kind, 1, &table).map(|_| ()), answer);
         }
-        assert_eq!(check(&table), answer);
-        assert_eq!(count(&table), answer.map(|()| 0));
-        assert_eq!(list(&table, &mut []), answer.map(|()| 0));
+        assert_eq!(check(Homes::PLAIN, &table), answer);
+        assert_eq!(count(Homes::PLAIN, &table), answer.map(|()| 0));
+        assert_eq!(list(Homes::PLAIN, &table, &mut []), answer.map(|()| 0));
     }
 }
 
@@ -242,7 +247,7 @@ fn a_shift_without_orders_keeps_its_table() {
         assert_eq!(phase.close(), Err(11));
     }
     assert_eq!(
-        replay("cells 5\nopen 1 16\nclose\nlist\n"),
+        replay("cells 5\nopen 1 16 1 0\nclose\nlist\n"),
         "1 ok\n2 ok\n3 ok\n4 0\n"
     );
 }
@@ -376,29 +381,32 @@ fn spoilt_records() {
 #[test]
 fn listing() {
     let table = cells([4, 3, 0, 13, 8]);
-    assert_eq!(check(&table), Ok(()));
-    assert_eq!(count(&table), Ok(4));
+    assert_eq!(check(Homes::PLAIN, &table), Ok(()));
+    assert_eq!(count(Homes::PLAIN, &table), Ok(4));
     let mut short = [77; 3];
-    assert_eq!(list(&table, &mut short), Err(12));
-    assert!(list_front(&table, &mut short).is_empty());
+    assert_eq!(list(Homes::PLAIN, &table, &mut short), Err(12));
+    assert!(list_front(Homes::PLAIN, &table, &mut short).is_empty());
     assert_eq!(short, [77; 3]);
     let mut lent = [77; 6];
-    assert_eq!(list(&table, &mut lent), Ok(4));
+    assert_eq!(list(Homes::PLAIN, &table, &mut lent), Ok(4));
     let listed = [cell(4), cell(3), cell(13), cell(8), 77, 77];
     assert_eq!(lent, listed);
     let mut lent = [77; 6];
-    assert_eq!(list_front(&table, &mut lent), cells([4, 3, 13, 8]));
+    assert_eq!(
+        list_front(Homes::PLAIN, &table, &mut lent),
+        cells([4, 3, 13, 8])
+    );
     assert_eq!(lent, listed);
 }
 
 #[test]
 fn taken_words_place_the_groups() {
     let labels: Prices = (1..150).map(|i| (i * i * 7 + 5, 1)).collect();
-    let table = layout(200, &labels);
+    let table = layout(Homes::PLAIN, 200, &labels);
     let words: Vec<u64> = (0..4).map(|group| taken_word(&table, group)).collect();
     assert_eq!(words[3] >> 8, 0);
     let ones = |words: &[u64]| words.iter().map(|w| w.count_ones() as usize).sum::<usize>();
-    assert_eq!(count(&table), Ok(ones(&words)));
+    assert_eq!(count(Homes::PLAIN, &table), Ok(ones(&words)));
     // The groups backwards give the same list.
     let mut by_groups = vec![0; labels.len()];
     for group in (0..4).rev() {
@@ -411,7 +419,7 @@ fn taken_words_place_the_groups() {
         }
     }
     let mut lent = vec![0; labels.len()];
-    list(&table, &mut lent).unwrap();
+    list(Homes::PLAIN, &table, &mut lent).unwrap();
     assert_eq!(lent, by_groups);
 }
 
@@ -420,7 +428,7 @@ fn taken_words_place_the_groups() {
 fn turns_on_the_sheet() {
     assert_eq!(
         replay(
-            "cells 5\nitem 0 3 1\nitem 1 8 1\nopen 1 2\norder 0\norder 1\nturn 0\nturn 1\nturn 1\n\
+            "cells 5\nitem 0 3 1\nitem 1 8 1\nopen 1 2 1 0\norder 0\norder 1\nturn 0\nturn 1\nturn 1\n\
              turn 0\nturn 0\nturn 0\nturn 0\nturn 0\nturn 0\nclose\nlist\n"
         ),
         "1 ok\n2 ok\n3 ok\n4 ok\n5 ok\n6 ok\n7 on\n8 on\n9 done\n10 on\n11 on\n\
@@ -582,9 +590,9 @@ fn a_nearer_empty_cell_is_taken() {
 fn sheet_limits() {
     assert_eq!(
         replay(
-            "list\nopen 1 1\ncells 1\ncells 0\ncells 4097\ncells 2\nlist\ncells 4096\n\
-             cells 4097\nopen 1 0\nopen 1 17\nopen 0 1\nopen 4 1\nopen 3 16\nturn 15\nturn 16\n\
-             close\ncells 2\nopen 1 1\nturn 1\nclose\n"
+            "list\nopen 1 1 1 0\ncells 1\ncells 0\ncells 4097\ncells 2\nlist\ncells 4096\n\
+             cells 4097\nopen 1 0 1 0\nopen 1 17 1 0\nopen 0 1 1 0\nopen 4 1 1 0\nopen 3 16 1 0\nturn 15\nturn 16\n\
+             close\ncells 2\nopen 1 1 1 0\nturn 1\nclose\n"
         ),
         "1 refused 1\n2 refused 1\n3 refused 1\n4 refused 1\n5 refused 1\n6 ok\n7 0\n8 ok\n\
          9 refused 1\n10 refused 2\n11 refused 2\n12 refused 3\n13 refused 3\n14 ok\n15 idle\n\
@@ -601,7 +609,7 @@ fn a_shut_shift_on_the_sheet() {
             .collect::<String>()
     };
     assert_eq!(replay(shut), answers(1));
-    let later = format!("cells 3\nopen 2 1\nclose\n{shut}");
+    let later = format!("cells 3\nopen 2 1 1 0\nclose\n{shut}");
     assert_eq!(replay(&later), format!("1 ok\n2 ok\n3 ok\n{}", answers(4)));
     assert_eq!(replay_bytes(b"order\t\0\r\n"), b"1\trefused\t11\n");
 }
@@ -609,7 +617,7 @@ fn a_shut_shift_on_the_sheet() {
 #[test]
 fn refused_opening_leaves_it_shut() {
     assert_eq!(
-        replay("cells 3\nopen 2 0\nturn 0\nopen 2 1\nturn 0\n"),
+        replay("cells 3\nopen 2 0 1 0\nturn 0\nopen 2 1 1 0\nturn 0\n"),
         "1 ok\n2 refused 2\n3 refused 11\n4 ok\n5 idle\n"
     );
 }
@@ -639,10 +647,12 @@ fn bad_lines() {
         "cells 5",
         "open\t1",
         "open\t1\t",
+        "open\t1\t1",
         "open\t1\t1\t1",
-        "open\t\t1\t1",
-        "open\t01\t1",
-        "open\t1\t18446744073709551617",
+        "open\t1\t1\t1\t0\t1",
+        "open\t\t1\t1\t1\t0",
+        "open\t01\t1\t1\t0",
+        "open\t1\t18446744073709551617\t1\t0",
         "item",
         "item\t0\t1",
         "item\t0\t1\t",
@@ -673,8 +683,8 @@ fn bad_lines() {
         "cells\t5",
         "cells\t1",
         "cells",
-        "open\t1\t1",
-        "open\t9\t9",
+        "open\t1\t1\t1\t0",
+        "open\t9\t9\t1\t0",
         "open",
         "item\t0\t1\t1",
         "item",
@@ -685,7 +695,7 @@ fn bad_lines() {
         "order\t4294967296",
         "order\t0\r",
     ] {
-        let sheet = format!("cells\t5\nopen\t1\t1\n{line}\nlist\n");
+        let sheet = format!("cells\t5\nopen\t1\t1\t1\t0\n{line}\nlist\n");
         assert_eq!(
             replay_bytes(sheet.as_bytes()),
             b"1\tok\n2\tok\n3\tbad\n",
@@ -708,7 +718,7 @@ fn ends_of_input() {
 fn run_fields() {
     assert_eq!(
         replay(
-            "cells 5\nitem 1 4294967295 1\nopen 1 3\nrun\norder 0\nrun\nclose\nopen 3 3\norder 0 5\n\
+            "cells 5\nitem 1 4294967295 1\nopen 1 3 1 0\nrun\norder 0\nrun\nclose\nopen 3 3 1 0\norder 0 5\n\
              order 2 4294967295\nrun\nrun\n"
         ),
         "1 ok\n2 ok\n3 ok\n4 - - -\n5 ok\n6 - done -\n7 ok\n8 ok\n9 ok\n10 ok\n\
@@ -721,7 +731,7 @@ fn run_fields() {
 fn list_in_an_open_shift() {
     assert_eq!(
         replay(
-            "cells 5\nitem 0 3 1\nitem 1 8 1\nopen 1 2\norder 0\norder 1\nrun\nclose\nopen 2 1\n\
+            "cells 5\nitem 0 3 1\nitem 1 8 1\nopen 1 2 1 0\norder 0\norder 1\nrun\nclose\nopen 2 1 1 0\n\
              order 0 8\nturn 0\nturn 0\nturn 0\nlist\nturn 0\nlist\nrun\nlist\n"
         ),
         "1 ok\n2 ok\n3 ok\n4 ok\n5 ok\n6 ok\n7 done done\n8 ok\n9 ok\n10 ok\n\

@@ -1,6 +1,8 @@
 //! Point 1 of document 02, sentence by sentence: the lower price stands.
 
-use reference::layout::{content, is_sound, label_of, layout, least_prices, price_of, Prices};
+use reference::layout::{
+    content, is_sound, label_of, layout, least_prices, price_of, Homes, Prices,
+};
 use reference::listing::{check, count, list, taken_word};
 use reference::phase::{Activity, Answer, Order, Phase, LOOK_UP, PUT_IN, TAKE_OUT};
 use reference::sheet::replay_bytes;
@@ -25,7 +27,7 @@ fn order(worker: u32, label: u32, price: u32) -> Order {
 
 /// A shift of one worker with that record, whatever it is.
 fn forged(kind: u32, n: usize, activity: Activity) -> Phase {
-    let mut phase = Phase::open(kind.into(), 1, &vec![0; n], &[]).unwrap();
+    let mut phase = Phase::open(kind.into(), 1, Homes::PLAIN, &vec![0; n], &[]).unwrap();
     phase.workers[0] = activity;
     phase
 }
@@ -58,7 +60,7 @@ fn contents() {
 fn wrong_cells_are_unsound() {
     let with = |cell| [content(5, 1), 0, cell, 0, content(4, 9_999_999)];
     for right in [0, content(7, 1), content(2, 2), content(7, 9_999_999)] {
-        assert!(is_sound(&with(right)));
+        assert!(is_sound(Homes::PLAIN, &with(right)));
     }
     for wrong in [
         1,
@@ -72,25 +74,37 @@ fn wrong_cells_are_unsound() {
         content(u32::MAX, 0),
     ] {
         let table = with(wrong);
-        assert!(!is_sound(&table), "{wrong}");
-        assert_eq!(check(&table), Err(4));
-        assert_eq!(count(&table), Err(4));
+        assert!(!is_sound(Homes::PLAIN, &table), "{wrong}");
+        assert_eq!(check(Homes::PLAIN, &table), Err(4));
+        assert_eq!(count(Homes::PLAIN, &table), Err(4));
         let mut lent = [77; 2];
-        assert_eq!(list(&table, &mut lent), Err(4));
+        assert_eq!(list(Homes::PLAIN, &table, &mut lent), Err(4));
         assert_eq!(lent, [77; 2]);
         for kind in 1..=3 {
-            assert_eq!(Phase::open(kind, 1, &table, &[]), Err(4));
+            assert_eq!(Phase::open(kind, 1, Homes::PLAIN, &table, &[]), Err(4));
         }
     }
     // A price without a label is no empty cell.
-    assert!(!is_sound(&[1, 2]));
-    assert!(!is_sound(&[content(2, 1), 1]));
+    assert!(!is_sound(Homes::PLAIN, &[1, 2]));
+    assert!(!is_sound(Homes::PLAIN, &[content(2, 1), 1]));
     // One label at two prices stands twice.
-    assert!(!is_sound(&[0, 0, 0, content(8, 2), content(8, 1)]));
-    assert!(!is_sound(&[0, 0, 0, content(8, 1), content(8, 2)]));
+    assert!(!is_sound(
+        Homes::PLAIN,
+        &[0, 0, 0, content(8, 2), content(8, 1)]
+    ));
+    assert!(!is_sound(
+        Homes::PLAIN,
+        &[0, 0, 0, content(8, 1), content(8, 2)]
+    ));
     // Precedence goes by label, not by price.
-    assert!(is_sound(&[0, 0, 0, content(13, 1), content(8, 9)]));
-    assert!(!is_sound(&[0, 0, 0, content(8, 9), content(13, 1)]));
+    assert!(is_sound(
+        Homes::PLAIN,
+        &[0, 0, 0, content(13, 1), content(8, 9)]
+    ));
+    assert!(!is_sound(
+        Homes::PLAIN,
+        &[0, 0, 0, content(8, 9), content(13, 1)]
+    ));
 }
 
 #[test]
@@ -98,7 +112,7 @@ fn least() {
     let ordered = [(8, 5), (3, 2), (8, 4), (8, 9), (3, 2)].map(|(l, p)| content(l, p));
     let prices = least_prices(ordered.into_iter().chain([0, 7]));
     assert_eq!(prices, Prices::from([(3, 2), (8, 4)]));
-    let table = layout(5, &prices);
+    let table = layout(Homes::PLAIN, 5, &prices);
     assert_eq!(table, [0, 0, 0, content(8, 4), content(3, 2)][..]);
 }
 
@@ -106,7 +120,7 @@ fn least() {
 fn lists_take_whole_cells() {
     let table = [content(5, 7), 0, 0, 0, content(4, 9_999_999)];
     let mut lent = [77; 3];
-    assert_eq!(list(&table, &mut lent), Ok(2));
+    assert_eq!(list(Homes::PLAIN, &table, &mut lent), Ok(2));
     assert_eq!(lent, [content(5, 7), content(4, 9_999_999), 77]);
     assert_eq!(taken_word(&table, 0), 0b10001);
     // Taken is what holds a label.
@@ -365,10 +379,13 @@ fn fourteen_in_its_place() {
         let list = [order(0, 0, price), order(0, 5, price), order(1, 5, price)];
         for line in list {
             let number = if line.label == 0 { 7 } else { 14 };
-            assert_eq!(Phase::open(1, 1, &[0, 0], &[line]), Err(number));
+            assert_eq!(
+                Phase::open(1, 1, Homes::PLAIN, &[0, 0], &[line]),
+                Err(number)
+            );
         }
         // At an order call, with a list that no opening takes.
-        let mut phase = Phase::open(1, 2, &[0, 0], &[]).unwrap();
+        let mut phase = Phase::open(1, 2, Homes::PLAIN, &[0, 0], &[]).unwrap();
         let before = phase.clone();
         assert_eq!(phase.order(&list, 0, 0, 5), Err(7));
         assert_eq!(phase.order(&list, 1, 0, 5), Err(14));
@@ -381,7 +398,7 @@ fn fourteen_in_its_place() {
     for price in [1, 9_999_999] {
         let list = [order(0, 5, price)];
         let mut table = [0, 0];
-        let mut phase = Phase::open(1, 1, &table, &list).unwrap();
+        let mut phase = Phase::open(1, 1, Homes::PLAIN, &table, &list).unwrap();
         assert_eq!(phase.order(&list, 0, 0, 0), Ok(()));
         while phase.turn(&mut table, 0).unwrap() == Answer::WentOn {}
         assert_eq!(table, [0, content(5, price)]);
@@ -393,7 +410,7 @@ fn fourteen_in_its_place() {
 fn a_fallen_price_is_carried_on() {
     let mut table = [0, 0, 0, content(8, 9), 0];
     let list = [order(0, 13, 5), order(1, 8, 3)];
-    let mut phase = Phase::open(1, 2, &table, &list).unwrap();
+    let mut phase = Phase::open(1, 2, Homes::PLAIN, &table, &list).unwrap();
     phase.order(&list, 0, 0, 0).unwrap();
     assert_eq!(phase.turn(&mut table, 0), Ok(Answer::WentOn));
     phase.order(&list, 1, 0, 0).unwrap();
@@ -409,8 +426,8 @@ fn prices_on_the_sheet() {
     // Prices fall, rise and tie; the least stands.
     assert_eq!(
         replay(
-            "cells 5\nitem 0 3 700\nitem 1 8 50\nitem 0 3 699\nitem 1 8 51\nopen 1 2\norder 0\n\
-             order 1\nrun\norder 2\norder 3\nrun\nclose\nlist\nopen 3 3\norder 0 3\norder 1 8\n\
+            "cells 5\nitem 0 3 700\nitem 1 8 50\nitem 0 3 699\nitem 1 8 51\nopen 1 2 1 0\norder 0\n\
+             order 1\nrun\norder 2\norder 3\nrun\nclose\nlist\nopen 3 3 1 0\norder 0 3\norder 1 8\n\
              order 2 13\nturn 1\nturn 0\nturn 0\nrun\norder 0 8\nrun\nclose\n"
         ),
         "1 ok\n2 ok\n3 ok\n4 ok\n5 ok\n6 ok\n7 ok\n8 ok\n9 done done\n10 ok\n11 ok\n\
@@ -426,7 +443,7 @@ fn prices_on_the_sheet() {
         ("4294967295", "refused 14"),
     ] {
         assert_eq!(
-            replay(&format!("cells 2\nitem 0 5 {price}\nopen 1 1\n")),
+            replay(&format!("cells 2\nitem 0 5 {price}\nopen 1 1 1 0\n")),
             format!("1 ok\n2 ok\n3 {answer}\n")
         );
     }

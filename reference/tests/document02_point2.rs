@@ -3,7 +3,7 @@
 use std::collections::BTreeSet;
 
 use reference::generate::{orders, spoil, Rng};
-use reference::layout::{content, label_of, layout, Prices};
+use reference::layout::{content, label_of, layout, Homes, Prices};
 use reference::phase::{Activity, Answer, Order, Phase};
 use reference::sheet::replay_bytes;
 
@@ -17,12 +17,12 @@ fn order(worker: u32, label: u32, price: u32) -> Order {
 
 /// The answer of a put-in opening.
 fn opens(count: u64, table: &[u64], list: &[Order]) -> Result<(), u8> {
-    Phase::open(1, count, table, list).map(|_| ())
+    Phase::open(1, count, Homes::PLAIN, table, list).map(|_| ())
 }
 
 /// Gives every line of the list in turn, runs each to its end and closes.
 fn work(count: u64, table: &mut [u64], list: &[Order]) {
-    let mut phase = Phase::open(1, count, table, list).unwrap();
+    let mut phase = Phase::open(1, count, Homes::PLAIN, table, list).unwrap();
     for (line, order) in (0..).zip(list) {
         phase.order(list, line, 0, 0).unwrap();
         while phase.turn(table, order.worker.into()).unwrap() == Answer::WentOn {}
@@ -38,11 +38,14 @@ fn openings_refuse_in_order() {
     let long = vec![order(9, 0, 0); 65_537];
     let unsound = [content(1, 1), content(1, 1)];
     for kind in [0, 1] {
-        assert_eq!(Phase::open(kind, 0, &unsound[..1], &long), Err(1));
-        assert_eq!(Phase::open(kind, 0, &unsound, &long), Err(2));
+        assert_eq!(
+            Phase::open(kind, 0, Homes::PLAIN, &unsound[..1], &long),
+            Err(1)
+        );
+        assert_eq!(Phase::open(kind, 0, Homes::PLAIN, &unsound, &long), Err(2));
     }
-    assert_eq!(Phase::open(0, 1, &unsound, &long), Err(3));
-    assert_eq!(Phase::open(4, 1, &unsound, &long), Err(3));
+    assert_eq!(Phase::open(0, 1, Homes::PLAIN, &unsound, &long), Err(3));
+    assert_eq!(Phase::open(4, 1, Homes::PLAIN, &unsound, &long), Err(3));
     assert_eq!(opens(1, &unsound, &long), Err(16));
     assert_eq!(opens(1, &unsound, &long[1..]), Err(4));
     // Every bad line comes before 9, though the table is full without it.
@@ -98,7 +101,7 @@ fn random_openings() {
         while set.len() < labels {
             set.insert(rng.within(1, 2 * n) as u32, 1);
         }
-        let table = layout(n, &set);
+        let table = layout(Homes::PLAIN, n, &set);
         let crew = rng.within(1, 16);
         let mut list = orders(rng, &table, crew, 2 * n);
         if !list.is_empty() && rng.once_in(6) {
@@ -120,7 +123,7 @@ fn random_openings() {
             .collect();
         let full = if together.len() >= n { 9 } else { 0 };
         let expected = faults.chain([full]).find(|&fault| fault != 0).unwrap_or(0);
-        let answer = Phase::open(1, crew as u64, &table, &list);
+        let answer = Phase::open(1, crew as u64, Homes::PLAIN, &table, &list);
         assert_eq!(answer.map_or_else(|number| number, |_| 0), expected);
         answers[expected as usize] += 1;
     }
@@ -153,7 +156,7 @@ fn the_assortment_sent_again() {
             .iter()
             .map(|&label| (label, 100 + label % 9))
             .collect();
-        let mut table = layout(n as usize, &opening);
+        let mut table = layout(Homes::PLAIN, n as usize, &opening);
         assert_eq!(table.iter().filter(|&&cell| cell == 0).count(), 1);
         let list: Vec<Order> = (0..)
             .zip(labels.iter().rev())
@@ -165,7 +168,7 @@ fn the_assortment_sent_again() {
         work(16, &mut table, &list);
         let lower = |(label, price): (u32, u32)| (label, price.min(104));
         let expected = opening.into_iter().map(lower).collect();
-        assert_eq!(table, layout(n as usize, &expected));
+        assert_eq!(table, layout(Homes::PLAIN, n as usize, &expected));
     }
 }
 
@@ -175,7 +178,7 @@ fn repeats_count_once() {
     for n in 2..20u32 {
         for old in 0..n {
             let opening: Prices = (1..=old).map(|label| (label, 3)).collect();
-            let table = layout(n as usize, &opening);
+            let table = layout(Homes::PLAIN, n as usize, &opening);
             let mut list: Vec<Order> = (0..5)
                 .flat_map(|_| (1..n).map(|l| order(0, l, 2)))
                 .collect();
@@ -191,7 +194,7 @@ fn the_longest_list() {
     let mut list = vec![order(0, 7, 9); 65_536];
     list[65_535].price = 4;
     let mut table = [0, 0];
-    let mut phase = Phase::open(1, 1, &table, &list).unwrap();
+    let mut phase = Phase::open(1, 1, Homes::PLAIN, &table, &list).unwrap();
     assert_eq!(phase.order(&list, 65_536, 0, 0), Err(15));
     assert_eq!(phase.order(&list, 65_535, 0, 0), Ok(()));
     while phase.turn(&mut table, 0).unwrap() == Answer::WentOn {}
@@ -204,8 +207,8 @@ fn the_longest_list() {
     assert_eq!(opens(1, &[0, 0], &list), Err(16));
     assert_eq!(opens(1, &[1, 1], &list), Err(16));
     for kind in [2, 3] {
-        assert!(Phase::open(kind, 1, &[0, 0], &list).is_ok());
-        assert_eq!(Phase::open(kind, 1, &[1, 1], &list), Err(4));
+        assert!(Phase::open(kind, 1, Homes::PLAIN, &[0, 0], &list).is_ok());
+        assert_eq!(Phase::open(kind, 1, Homes::PLAIN, &[1, 1], &list), Err(4));
     }
 }
 
@@ -221,11 +224,14 @@ fn other_kinds_read_no_list() {
         vec![order(9, 0, 0); 65_537],
     ];
     for kind in [2, 3] {
-        let plain = Phase::open(kind, 1, &table, &[]).unwrap();
+        let plain = Phase::open(kind, 1, Homes::PLAIN, &table, &[]).unwrap();
         let mut ordered = plain.clone();
         ordered.order(&[], 0, 0, 4).unwrap();
         for list in &lists {
-            assert_eq!(Phase::open(kind, 1, &table, list), Ok(plain.clone()));
+            assert_eq!(
+                Phase::open(kind, 1, Homes::PLAIN, &table, list),
+                Ok(plain.clone())
+            );
             for line in [0, 1, 65_537, u64::MAX] {
                 let mut phase = plain.clone();
                 assert_eq!(phase.order(list, line, 1, 4), Err(6));
@@ -251,7 +257,7 @@ fn order_refuses_in_order() {
         order(1, 0, 0),
         order(1, 5, 0),
     ];
-    let mut phase = Phase::open(1, 2, &[0, 0], &list[..1]).unwrap();
+    let mut phase = Phase::open(1, 2, Homes::PLAIN, &[0, 0], &list[..1]).unwrap();
     let unread = [(0, 0), (0, 5), (1, 5), (9, 0), (u64::MAX, 7)];
     let refused = |phase: &Phase, line: u64, number: u8| {
         for (worker, label) in unread {
@@ -287,7 +293,7 @@ fn order_refuses_in_order() {
 fn a_line_given_twice() {
     let list = [order(0, 8, 6), order(1, 8, 6), order(0, 3, 2)];
     let mut table = [0; 5];
-    let mut phase = Phase::open(1, 2, &table, &list).unwrap();
+    let mut phase = Phase::open(1, 2, Homes::PLAIN, &table, &list).unwrap();
     for _ in 0..3 {
         assert_eq!(phase.order(&list, 0, 0, 0), Ok(()));
         assert_eq!(phase.order(&list, 0, 0, 0), Err(8));
@@ -309,7 +315,7 @@ fn a_line_given_twice() {
 #[test]
 fn an_altered_list() {
     let opened = [order(0, 8, 6)];
-    let phase = Phase::open(1, 2, &[0; 5], &opened).unwrap();
+    let phase = Phase::open(1, 2, Homes::PLAIN, &[0; 5], &opened).unwrap();
     let mut other = phase.clone();
     assert_eq!(other.order(&[], 0, 0, 8), Err(15));
     assert_eq!(other.order(&[order(2, 8, 6)], 0, 0, 8), Err(6));
@@ -331,10 +337,10 @@ fn an_altered_list() {
 #[test]
 fn no_count_of_orders() {
     let list = [order(0, 8, 6), order(0, 3, 2)];
-    let phase = Phase::open(1, 1, &[0; 5], &list);
-    assert_eq!(phase, Phase::open(1, 1, &[0; 5], &[]));
+    let phase = Phase::open(1, 1, Homes::PLAIN, &[0; 5], &list);
+    assert_eq!(phase, Phase::open(1, 1, Homes::PLAIN, &[0; 5], &[]));
     let mut table = [0, 0];
-    let mut phase = Phase::open(1, 1, &table, &list[..1]).unwrap();
+    let mut phase = Phase::open(1, 1, Homes::PLAIN, &table, &list[..1]).unwrap();
     for _ in 0..1000 {
         phase.order(&list, 0, 0, 0).unwrap();
         while phase.turn(&mut table, 0).unwrap() == Answer::WentOn {}
@@ -371,7 +377,7 @@ fn shown(lines: &[&str]) {
 fn fields_of_an_order() {
     let fourth = |kind: u32, order: &str| {
         let printed = replay(&format!(
-            "cells 5\nitem 0 1 1\nopen {kind} 1\n{order}\nlist\n"
+            "cells 5\nitem 0 1 1\nopen {kind} 1 1 0\n{order}\nlist\n"
         ));
         printed.lines().nth(3).unwrap().to_string()
     };
@@ -404,22 +410,22 @@ fn fields_of_an_order() {
 fn items_kept_and_cleared() {
     shown(&[
         "item 1 8 4 | ok",
-        "open 1 2 | refused 1",
+        "open 1 2 1 0 | refused 1",
         "cells 2 | ok",
         "item 0 3 9 | ok",
-        "open 1 2 | refused 9",
-        "open 1 17 | refused 2",
-        "open 4 1 | refused 3",
-        "open 2 1 | ok",
+        "open 1 2 1 0 | refused 9",
+        "open 1 17 1 0 | refused 2",
+        "open 4 1 1 0 | refused 3",
+        "open 2 1 1 0 | ok",
         "order 0 8 | ok",
         "run | done",
         "close | ok",
         "cells 5 | ok",
-        "open 3 1 | ok",
+        "open 3 1 1 0 | ok",
         "close | ok",
         "cells 1 | refused 1",
-        "open 1 1 | refused 6",
-        "open 1 2 | ok",
+        "open 1 1 1 0 | refused 6",
+        "open 1 2 1 0 | ok",
         "order 2 | refused 15",
         "order 1 | ok",
         "order 0 | ok",
@@ -430,11 +436,11 @@ fn items_kept_and_cleared() {
         "run | - done",
         "close | ok",
         "list | 2 8 4 3 9",
-        "open 1 2 | ok",
+        "open 1 2 1 0 | ok",
         "order 0 | refused 15",
         "close | ok",
         "item 0 13 1 | ok",
-        "open 1 1 | ok",
+        "open 1 1 1 0 | ok",
         "order 1 | refused 15",
         "order 0 | ok",
         "run | done",
@@ -453,7 +459,7 @@ fn items_of_any_numbers() {
         ("item 4294967295 4294967295 9999999", "refused 6"),
         ("item 0 4294967295 9999999", "ok"),
     ] {
-        let printed = replay(&format!("{item}\ncells 5\nopen 1 1\n"));
+        let printed = replay(&format!("{item}\ncells 5\nopen 1 1 1 0\n"));
         assert_eq!(printed, format!("1 ok\n2 ok\n3 {answer}\n"));
     }
 }
@@ -462,7 +468,7 @@ fn items_of_any_numbers() {
 fn items_in_an_open_shift() {
     for kind in 1..=3 {
         for item in ["item 0 1 1", "item 0 0 0", "item"] {
-            let sheet = format!("cells 5\nopen {kind} 1\n{item}\nlist\n");
+            let sheet = format!("cells 5\nopen {kind} 1 1 0\n{item}\nlist\n");
             assert_eq!(replay(&sheet), "1 ok\n2 ok\n3 bad\n");
         }
     }
@@ -472,9 +478,9 @@ fn items_in_an_open_shift() {
 #[test]
 fn the_most_items() {
     let items = "item 0 7 1\n".repeat(512);
-    let full = format!("{items}cells 5\nopen 3 1\nclose\n{items}");
+    let full = format!("{items}cells 5\nopen 3 1 1 0\nclose\n{items}");
     let printed = replay(&format!(
-        "{full}open 1 1\norder 1023\norder 1024\nrun\nclose\n"
+        "{full}open 1 1 1 0\norder 1023\norder 1024\nrun\nclose\n"
     ));
     let last: Vec<&str> = printed.lines().skip(1027).collect();
     assert_eq!(
@@ -493,7 +499,7 @@ fn the_most_items() {
     assert!(more.ends_with("\n1027 ok\n1028 bad\n"));
     // After the close the next list starts afresh.
     let again = replay(&format!(
-        "{full}open 1 1\nclose\n{items}{items}item 0 7 1\n"
+        "{full}open 1 1 1 0\nclose\n{items}{items}item 0 7 1\n"
     ));
     assert!(again.ends_with("\n2053 ok\n2054 bad\n"));
 }

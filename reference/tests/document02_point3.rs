@@ -3,7 +3,7 @@
 use std::collections::BTreeSet;
 
 use reference::generate::{all_lists, fill, overwrite, returned, table, torn, Rng, WRONG_PRICES};
-use reference::layout::{content, layout, soundness, Prices};
+use reference::layout::{content, layout, soundness, Homes, Prices};
 use reference::listing::{check, count, list, list_front};
 use reference::phase::{Answer, Order, Phase};
 use reference::refusal;
@@ -38,25 +38,25 @@ fn wrong_contents() -> Vec<u64> {
 /// What every call that needs a sound table says of this one: its number, or 0.
 /// A refusal keeps all lent places.
 fn said(table: &[u64]) -> u8 {
-    let answer = check(table);
+    let answer = check(Homes::PLAIN, table);
     let number = answer.map_or_else(|number| number, |()| 0);
-    assert_eq!(count(table).map(|_| ()), answer);
+    assert_eq!(count(Homes::PLAIN, table).map(|_| ()), answer);
     let lists = [vec![], vec![order(9, 0, 0)], vec![order(0, 1, 1); 3]];
     if number == 0 {
         for kind in 1..=3 {
-            assert!(Phase::open(kind, 1, table, &[]).is_ok());
+            assert!(Phase::open(kind, 1, Homes::PLAIN, table, &[]).is_ok());
         }
         return 0;
     }
     for places in [0, 1, table.len(), table.len() + 3] {
         let mut lent = vec![77; places];
-        assert_eq!(list(table, &mut lent), Err(number));
-        assert!(list_front(table, &mut lent).is_empty());
+        assert_eq!(list(Homes::PLAIN, table, &mut lent), Err(number));
+        assert!(list_front(Homes::PLAIN, table, &mut lent).is_empty());
         assert_eq!(lent, vec![77; places]);
     }
     for kind in 1..=3 {
         for list in &lists {
-            assert_eq!(Phase::open(kind, 1, table, list), Err(number));
+            assert_eq!(Phase::open(kind, 1, Homes::PLAIN, table, list), Err(number));
         }
     }
     number
@@ -89,8 +89,8 @@ fn a_full_table() {
     assert_eq!(said(&[1, 1]), 4);
     let rng = &mut Rng::new(1);
     for n in 2..200 {
-        let mut full = table(rng, n);
-        fill(rng, &mut full);
+        let mut full = table(rng, Homes::PLAIN, n);
+        fill(rng, Homes::PLAIN, &mut full);
         assert!(!full.contains(&0));
         assert_eq!(said(&full), 4);
     }
@@ -298,15 +298,18 @@ fn openings_refuse_in_order() {
         (cells([3, 6, 0]), 18),
     ] {
         for kind in 0..=4 {
-            assert_eq!(Phase::open(kind, 0, &table, &long), Err(2));
-            assert_eq!(Phase::open(kind, 17, &table, &long), Err(2));
+            assert_eq!(Phase::open(kind, 0, Homes::PLAIN, &table, &long), Err(2));
+            assert_eq!(Phase::open(kind, 17, Homes::PLAIN, &table, &long), Err(2));
         }
         for kind in [0, 4] {
-            assert_eq!(Phase::open(kind, 1, &table, &long), Err(3));
+            assert_eq!(Phase::open(kind, 1, Homes::PLAIN, &table, &long), Err(3));
         }
-        assert_eq!(Phase::open(1, 1, &table, &long), Err(16));
+        assert_eq!(Phase::open(1, 1, Homes::PLAIN, &table, &long), Err(16));
         for kind in [2, 3] {
-            assert_eq!(Phase::open(kind, 1, &table, &long), Err(number));
+            assert_eq!(
+                Phase::open(kind, 1, Homes::PLAIN, &table, &long),
+                Err(number)
+            );
         }
         // Bad lines, and more labels than the table has room for.
         let lists = [
@@ -316,11 +319,11 @@ fn openings_refuse_in_order() {
             vec![order(9, 0, 0); 65_536],
             (1..9).map(|label| order(0, label, 1)).collect(),
         ];
-        let alone = |list| Phase::open(1, 1, &[0; 3], list).map(|_| ());
+        let alone = |list| Phase::open(1, 1, Homes::PLAIN, &[0; 3], list).map(|_| ());
         let numbers = [7, 14, 6, 7, 9];
         for (list, behind) in lists.iter().zip(numbers) {
             assert_eq!(alone(list), Err(behind));
-            assert_eq!(Phase::open(1, 1, &table, list), Err(number));
+            assert_eq!(Phase::open(1, 1, Homes::PLAIN, &table, list), Err(number));
         }
         assert_eq!(said(&table), number);
     }
@@ -341,17 +344,17 @@ fn check_count_and_list_refuse_in_order() {
             assert_eq!(said(&table), expected);
         }
     }
-    assert_eq!(list(&cells([0, 1, 0]), &mut []), Err(12));
-    assert_eq!(list(&cells([1, 0, 0]), &mut []), Err(17));
-    assert_eq!(list(&cells([3, 6, 0]), &mut [0]), Err(18));
+    assert_eq!(list(Homes::PLAIN, &cells([0, 1, 0]), &mut []), Err(12));
+    assert_eq!(list(Homes::PLAIN, &cells([1, 0, 0]), &mut []), Err(17));
+    assert_eq!(list(Homes::PLAIN, &cells([3, 6, 0]), &mut [0]), Err(18));
 }
 
 /// A take-out in the middle of its work leaves a copy of a label on that label's
 /// way.
 #[test]
 fn on_the_sheet() {
-    let sheet = "cells 5\nitem 0 3 1\nitem 1 8 1\nopen 1 2\norder 0\norder 1\nrun\nclose\n\
-                 open 2 1\norder 0 8\nturn 0\nturn 0\nturn 0\nturn 0\nlist\nrun\nlist\n";
+    let sheet = "cells 5\nitem 0 3 1\nitem 1 8 1\nopen 1 2 1 0\norder 0\norder 1\nrun\nclose\n\
+                 open 2 1 1 0\norder 0 8\nturn 0\nturn 0\nturn 0\nturn 0\nlist\nrun\nlist\n";
     let printed = replay_bytes(sheet.replace(' ', "\t").as_bytes());
     let printed = String::from_utf8(printed).unwrap();
     assert!(printed.ends_with("15\trefused\t18\n16\tdone\n17\t1\t3\t1\n"));
@@ -362,7 +365,7 @@ fn on_the_sheet() {
 #[test]
 fn a_gap_in_a_take_out_shift() {
     let mut table = cells([0, 5, 2, 1]);
-    let mut phase = Phase::open(2, 2, &table, &[]).unwrap();
+    let mut phase = Phase::open(2, 2, Homes::PLAIN, &table, &[]).unwrap();
     let turns = |phase: &mut Phase, table: &mut [u64], worker: u64, turns: usize| {
         for _ in 0..turns {
             phase.turn(table, worker).unwrap();
@@ -415,7 +418,7 @@ fn by_sets(table: &[u64]) -> u8 {
 }
 
 fn number(table: &[u64]) -> u8 {
-    soundness(table).map_or_else(|number| number, |()| 0)
+    soundness(Homes::PLAIN, table).map_or_else(|number| number, |()| 0)
 }
 
 /// How often each number was said.
@@ -509,7 +512,7 @@ fn returned_tables() {
     let mut tally = Tally::default();
     for _ in 0..20_000 {
         let n = rng.within(2, 24);
-        tally.take(&returned(rng, n));
+        tally.take(&returned(rng, Homes::PLAIN, n));
     }
     let said = tally.said();
     assert!(said.iter().all(|&often| often > 1500), "{said:?}");
@@ -522,7 +525,7 @@ fn cells_written_over() {
     let mut tally = Tally::default();
     for _ in 0..20_000 {
         let n = rng.within(2, 24);
-        let mut table = table(rng, n);
+        let mut table = table(rng, Homes::PLAIN, n);
         overwrite(rng, &mut table);
         tally.take(&table);
     }
@@ -538,7 +541,7 @@ fn tables_torn_everywhere() {
     let mut tally = Tally::default();
     for _ in 0..400 {
         let n = rng.within(2, 30);
-        let (front, rest) = (table(rng, n), table(rng, n));
+        let (front, rest) = (table(rng, Homes::PLAIN, n), table(rng, Homes::PLAIN, n));
         assert_eq!(torn(&front, &rest, 0), rest);
         assert_eq!(torn(&front, &rest, n), front);
         for cut in 0..=n {
@@ -560,7 +563,7 @@ fn torn_or_full() {
     for n in [4, 5, 64, 65, 1000, 8191, 8192] {
         let labels = |labels: Vec<usize>| -> Vec<u64> {
             let prices: Prices = labels.iter().map(|&label| (label as u32, 1)).collect();
-            layout(n, &prices)
+            layout(Homes::PLAIN, n, &prices)
         };
         // Every cell but the first has a label that is at home there.
         let at_home = labels((1..n).collect());

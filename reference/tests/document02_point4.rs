@@ -4,7 +4,7 @@ use reference::generate::till::{
     all_texts, damaged, good, nick, number, written, Quotes, Record, BYTES, PIECES,
 };
 use reference::generate::Rng;
-use reference::layout::{content, layout, Prices};
+use reference::layout::{content, layout, Homes, Prices};
 use reference::phase::{Answer, Order, Phase};
 use reference::refusal;
 use reference::till::read;
@@ -362,17 +362,24 @@ fn values_are_checked_at_opening() {
         ("1,1\r\n2,2\r\n3,3", 9),
     ] {
         let orders = read_into(text.as_bytes(), 2, 9).unwrap();
-        assert_eq!(Phase::open(1, 2, &[0; 3], &orders), Err(number), "{text:?}");
+        assert_eq!(
+            Phase::open(1, 2, Homes::PLAIN, &[0; 3], &orders),
+            Err(number),
+            "{text:?}"
+        );
     }
     for count in [65_536, 65_537, 100_000] {
         let orders = read_into("7,5\r\n".repeat(count).as_bytes(), 16, count).unwrap();
-        let answer = Phase::open(1, 16, &[0; 3], &orders).map(|_| ());
+        let answer = Phase::open(1, 16, Homes::PLAIN, &[0; 3], &orders).map(|_| ());
         assert_eq!(answer, if count == 65_536 { Ok(()) } else { Err(16) });
     }
     // As many workers as the list was dealt to, or more; not fewer.
     let orders = read_into(b"1,1\r\n2,2\r\n3,3", 3, 3).unwrap();
     for (count, answer) in [(2, Err(6)), (3, Ok(())), (4, Ok(()))] {
-        assert_eq!(Phase::open(1, count, &[0; 9], &orders).map(|_| ()), answer);
+        assert_eq!(
+            Phase::open(1, count, Homes::PLAIN, &[0; 9], &orders).map(|_| ()),
+            answer
+        );
     }
 }
 
@@ -383,14 +390,14 @@ fn a_shift_of_a_till() {
     for count in 1..=16 {
         let orders = read_into(text.as_bytes(), count, 5).unwrap();
         let mut table = vec![0; 5];
-        let mut phase = Phase::open(1, count, &table, &orders).unwrap();
+        let mut phase = Phase::open(1, count, Homes::PLAIN, &table, &orders).unwrap();
         for (line, order) in (0..).zip(&orders) {
             phase.order(&orders, line, 0, 0).unwrap();
             while phase.turn(&mut table, order.worker.into()).unwrap() == Answer::WentOn {}
         }
         phase.close().unwrap();
         let prices = Prices::from([(3, 1), (4, 1), (8, 1), (13, 1)]);
-        assert_eq!(table, layout(5, &prices));
+        assert_eq!(table, layout(Homes::PLAIN, 5, &prices));
         assert_eq!(
             table,
             [4, 3, 0, 13, 8].map(|label| content(label, label.min(1)))

@@ -3,7 +3,7 @@
 use std::collections::{BTreeMap, BTreeSet};
 
 use reference::generate::{sheet, styled, undamaged, Style};
-use reference::layout::{label_of, layout, price_of, Prices};
+use reference::layout::{label_of, layout, price_of, soundness, Homes, Prices};
 use reference::sheet::replay_bytes;
 
 fn lines(text: &[u8]) -> Vec<&[u8]> {
@@ -22,8 +22,24 @@ fn fields(line: &[u8]) -> Vec<String> {
 /// An item: worker, label, price.
 type Item = (u32, u32, u32);
 
-/// What a put-in opening answers on a sound table of these labels.
-fn put_in_opening(n: usize, set: &Prices, items: &[Item], count: u32) -> String {
+/// What an opening with these homes and no fault in its kind and count answers
+/// on a sound table of these labels, closed under the homes `last`.
+fn opening(
+    kind: &str,
+    count: u32,
+    homes: Homes,
+    (n, set, last): (usize, &Prices, Homes),
+    items: &[Item],
+) -> String {
+    if homes.a.is_multiple_of(2) {
+        return "refused 21".to_string();
+    }
+    if let Err(number) = soundness(homes, &layout(last, n, set)) {
+        return format!("refused {number}");
+    }
+    if kind != "1" {
+        return "ok".to_string();
+    }
     let fault = items.iter().find_map(|&(worker, label, price)| {
         let faults = [
             (label == 0, 7),
@@ -42,8 +58,8 @@ fn put_in_opening(n: usize, set: &Prices, items: &[Item], count: u32) -> String 
 }
 
 /// Follows a replay from outside: line numbers, shares of answers, every
-/// look-up's answer, every put-in opening, and every list after a close against
-/// the layout. Returns the accepted closes.
+/// look-up's answer, every opening, and every list after a close against the
+/// layout. Returns the accepted closes.
 fn follow(text: &[u8], words: &mut BTreeMap<String, usize>) -> usize {
     let output = replay_bytes(text);
     assert!(output.is_empty() || output.ends_with(b"\n"));
@@ -51,6 +67,8 @@ fn follow(text: &[u8], words: &mut BTreeMap<String, usize>) -> usize {
     assert!(answers.len() <= sheet.len());
     let (mut n, mut kind, mut open) = (0, 0, false);
     let mut set = Prices::new();
+    // Those of the last accepted opening.
+    let mut last = Homes::PLAIN;
     let mut items: Vec<Item> = Vec::new();
     let mut ordered: Vec<(u32, u32)> = Vec::new();
     // The label that each worker looks up.
@@ -71,11 +89,23 @@ fn follow(text: &[u8], words: &mut BTreeMap<String, usize>) -> usize {
             return closes;
         }
         let found = |label: u32| set.get(&label).map_or("no".to_string(), u32::to_string);
-        if line.starts_with(&["open".to_string(), "1".to_string()]) && n > 0 {
-            let count: u32 = line[2].parse().unwrap();
-            if (1..=16).contains(&count) {
-                let expected = put_in_opening(n, &set, &items, count);
-                assert_eq!(answer[1..].join(" "), expected);
+        if line[0] == "open" {
+            let numbers: Vec<u32> = line[1..].iter().map(|f| f.parse().unwrap()).collect();
+            let [number, count, a, b] = numbers[..] else {
+                panic!("{line:?} has four numbers");
+            };
+            let homes = Homes { a, b };
+            let expected = match (n, count, number) {
+                (0, ..) => "refused 1".to_string(),
+                (_, 0 | 17.., _) => "refused 2".to_string(),
+                (_, _, 0 | 4..) => "refused 3".to_string(),
+                _ => opening(&line[1], count, homes, (n, &set, last), &items),
+            };
+            assert_eq!(answer[1..].join(" "), expected);
+            if expected == "ok" {
+                let moved = !set.is_empty() && homes != last;
+                *words.entry(format!("moved {moved}")).or_default() += 1;
+                last = homes;
             }
         }
         match (line[0].as_str(), answer[1].as_str()) {
@@ -136,7 +166,7 @@ fn follow(text: &[u8], words: &mut BTreeMap<String, usize>) -> usize {
             ("list", count) if !open && n > 0 => {
                 let listed: Vec<u32> = answer[2..].iter().map(|l| l.parse().unwrap()).collect();
                 assert_eq!(count, (listed.len() / 2).to_string());
-                let table = layout(n, &set).into_iter().filter(|&cell| cell != 0);
+                let table = layout(last, n, &set).into_iter().filter(|&cell| cell != 0);
                 let expected: Vec<u32> = table
                     .flat_map(|cell| [label_of(cell), price_of(cell)])
                     .collect();
@@ -177,15 +207,17 @@ fn sheets_reach_everything() {
     ] {
         assert!(words.get(word).is_some_and(|&n| n > 100), "{word}");
     }
-    // 4, 5, 12, 13 and 16 can't come from a sheet; 18 and, very seldom, 17 come
-    // by a list while a take-out is at work.
-    for number in [1, 2, 3, 6, 7, 8, 9, 10, 11, 14, 15, 18] {
+    // 4, 5, 12, 13 and 16 can't come from a sheet; 17 and 18 come by an opening
+    // with other homes, and by a list while a take-out is at work.
+    for number in [1, 2, 3, 6, 7, 8, 9, 10, 11, 14, 15, 17, 18, 21] {
         let word = format!("refused {number}");
         assert!(words.get(&word).is_some_and(|&n| n > 30), "{word}");
     }
     for number in [4, 5, 12, 13, 16] {
         assert_eq!(words.get(&format!("refused {number}")), None);
     }
+    // Tables with labels, closed under one a and b and opened under others.
+    assert!(words["moved true"] > 300, "{words:?}");
     assert!(several * 4 > sheets as usize * 3);
     assert!(unended * 10 > sheets as usize);
     assert!(empty > 3);

@@ -2,9 +2,9 @@
 
 use std::collections::HashMap;
 
-use reference::generate::{all_lists, price, Rng};
+use reference::generate::{all_lists, even_homes, homes, label_with, other_homes, price, Rng};
 use reference::layout::{
-    content, is_sound, label_of, layout, least_prices, soundness, way_is_greater, Prices,
+    content, is_sound, label_of, layout, least_prices, soundness, way_is_greater, Homes, Prices,
 };
 use reference::phase::{Activity, Answer, Order, Phase, LOOK_UP, PUT_IN, TAKE_OUT};
 
@@ -77,10 +77,11 @@ fn checked_turn(
     );
     match phase.kind {
         PUT_IN => {
-            let greater =
-                |(at, &cell): (usize, &u64)| cell == 0 || way_is_greater(table, label_of(cell), at);
+            let greater = |(at, &cell): (usize, &u64)| {
+                cell == 0 || way_is_greater(phase.homes, table, label_of(cell), at)
+            };
             assert!(table.iter().enumerate().all(greater), "{table:?}");
-            assert!(is_sound(table));
+            assert!(is_sound(phase.homes, table));
             // The table's and the carried labels, and the least prices there.
             let carried = phase.crew().iter().filter_map(|&activity| entry(activity));
             let all = least_prices(table.iter().copied().chain(carried));
@@ -94,7 +95,7 @@ fn checked_turn(
         // Of the labels to stay, none is ever missing, and no price changes.
         // Ways may be broken, but a cell is empty and none wrong by itself.
         TAKE_OUT => {
-            assert_ne!(soundness(table), Err(4), "{table:?}");
+            assert_ne!(soundness(phase.homes, table), Err(4), "{table:?}");
             let now = prices(table);
             assert!(now.iter().all(|(label, price)| opening[label] == *price));
             let stay = expected(TAKE_OUT, opening, ordered);
@@ -130,26 +131,37 @@ fn room_for(opening: &Prices, n: usize, mut orders: Vec<Order>) -> Vec<Order> {
     orders
 }
 
-/// Random shifts, one after another on the same table.
+/// Random shifts, one after another on the same table; now and then with other
+/// homes, where these open it.
 #[test]
 fn random_shifts() {
-    let mut closes = 0;
+    let (mut closes, mut moved) = (0, 0);
     for seed in 0..6000 {
         let rng = &mut Rng::new(seed);
         let n = rng.within(2, 14);
         let style = rng.below(4);
         let home = rng.below(n) as u32;
+        let first_homes = homes(rng);
+        let mut homes = first_homes;
         let label = |rng: &mut Rng| match style {
             0 => rng.within(1, 3 * n) as u32,
             1 => u32::MAX - rng.below(3 * n) as u32,
             2 => 100 * rng.within(1, 2 * n) as u32,
-            _ => rng.within(1, 2 * n) as u32 * n as u32 + home,
+            _ => {
+                let value = rng.within(1, 2 * n) as u32 * n as u32 + home;
+                label_with(first_homes, value).max(1)
+            }
         };
         let mut table = vec![0; n];
         for _ in 0..8 {
             let kind = rng.pick(&[1, 1, 1, 2, 2, 3]);
             let count = rng.pick(&[1, 2, 2, 3, 4, 5, 16]);
             let opening = prices(&table);
+            let other = other_homes(rng, homes, n);
+            if rng.once_in(3) && is_sound(other, &table) {
+                homes = other;
+                moved += usize::from(!opening.is_empty());
+            }
             let list = room_for(
                 &opening,
                 n,
@@ -161,7 +173,7 @@ fn random_shifts() {
                     })
                     .collect(),
             );
-            let mut phase = Phase::open(kind, count as u64, &table, &list).unwrap();
+            let mut phase = Phase::open(kind, count as u64, homes, &table, &list).unwrap();
             let mut wanted = rng.below(2 * count + n);
             let mut ordered = Vec::new();
             let mut turns = 0;
@@ -199,11 +211,12 @@ fn random_shifts() {
             }
             phase.close().unwrap();
             let set = expected(phase.kind, &opening, &ordered);
-            assert_eq!(table, layout(n, &set), "seed {seed}");
+            assert_eq!(table, layout(homes, n, &set), "seed {seed}");
             closes += 1;
         }
     }
     assert_eq!(closes, 48_000);
+    assert!(moved > 4000, "{moved}");
 }
 
 /// All interleavings of one shift.
@@ -247,15 +260,22 @@ impl Walk {
         if given == self.orders.len() && phase.all_idle() {
             phase.clone().close().unwrap();
             let set = expected(phase.kind, &self.opening, &self.orders);
-            assert_eq!(table, layout(self.n, &set));
+            assert_eq!(table, layout(phase.homes, self.n, &set));
             self.ends += 1;
         }
         self.seen.insert(key, true);
     }
 }
 
-fn explore(kind: u32, count: usize, n: usize, opening: &Prices, orders: &[(u32, u32)]) {
-    let table = layout(n, opening);
+fn explore(
+    kind: u32,
+    count: usize,
+    homes: Homes,
+    n: usize,
+    opening: &Prices,
+    orders: &[(u32, u32)],
+) {
+    let table = layout(homes, n, opening);
     let order = |worker, (label, price)| Order {
         worker,
         label,
@@ -265,7 +285,7 @@ fn explore(kind: u32, count: usize, n: usize, opening: &Prices, orders: &[(u32, 
         .iter()
         .flat_map(|&entry| (0..count as u32).map(move |worker| order(worker, entry)))
         .collect();
-    let phase = match Phase::open(kind.into(), count as u64, &table, &list) {
+    let phase = match Phase::open(kind.into(), count as u64, homes, &table, &list) {
         Ok(phase) => phase,
         Err(number) => {
             assert_eq!(number, 9);
@@ -304,25 +324,45 @@ fn sets(n: usize, labels: &[u32], prices: &[u32]) -> Vec<Prices> {
 
 /// Every table, every two orders, every interleaving of two workers; in put-in
 /// shifts with two prices for each, so that they differ, fall, rise and tie.
-#[test]
-fn all_interleavings_of_two_orders() {
-    for n in 2..=4 {
-        let labels: Vec<u32> = (1..=2 * n as u32).collect();
-        for kind in 1..=3 {
-            // A take-out or look-up runs alike for all prices.
-            let two: &[u32] = if kind == PUT_IN { &[5, 9] } else { &[5] };
-            for opening in sets(n, &labels, two) {
-                for &a in &labels {
-                    for &b in &labels {
-                        for &p in two {
-                            for &q in two {
-                                explore(kind, 2, n, &opening, &[(a, p), (b, q)]);
-                            }
+fn every_two_orders(homes: Homes, n: usize) {
+    let labels: Vec<u32> = (1..=2 * n as u32).collect();
+    for kind in 1..=3 {
+        // A take-out or look-up runs alike for all prices.
+        let two: &[u32] = if kind == PUT_IN { &[5, 9] } else { &[5] };
+        for opening in sets(n, &labels, two) {
+            for &a in &labels {
+                for &b in &labels {
+                    for &p in two {
+                        for &q in two {
+                            explore(kind, 2, homes, n, &opening, &[(a, p), (b, q)]);
                         }
                     }
                 }
             }
         }
+    }
+}
+
+#[test]
+fn all_interleavings_of_two_orders() {
+    for n in 2..=4 {
+        every_two_orders(Homes::PLAIN, n);
+    }
+}
+
+/// The same with homes in other cells: those of 1, 2, 3, .. backwards; by a
+/// great a; and four of six labels at one home.
+#[test]
+fn all_interleavings_with_other_homes() {
+    for (a, b, cells) in [
+        (u32::MAX, 0, vec![3, 2, 1, 0, 3, 2, 1, 0]),
+        (2_654_435_769, 1, vec![1, 0, 0, 2, 1, 1]),
+        (0x3333_3333, 1, vec![1, 1, 1, 1, 0, 0]),
+    ] {
+        let (homes, n) = (Homes { a, b }, cells.len() / 2);
+        let home = |label| homes.home(label, n);
+        assert_eq!((1..=2 * n as u32).map(home).collect::<Vec<_>>(), cells);
+        every_two_orders(homes, n);
     }
 }
 
@@ -339,7 +379,8 @@ fn all_interleavings_of_three_orders() {
                 for &a in &labels {
                     for &b in labels.iter().filter(|&&b| b >= a) {
                         for &c in labels.iter().filter(|&&c| c >= b) {
-                            explore(kind, 3, n, &opening, &[(a, 6), (b, 4), (c, 5)]);
+                            let orders = [(a, 6), (b, 4), (c, 5)];
+                            explore(kind, 3, Homes::PLAIN, n, &opening, &orders);
                         }
                     }
                 }
@@ -365,7 +406,8 @@ fn all_interleavings_of_prices() {
             for p in 1..=4 {
                 for q in 1..=4 {
                     for r in 1..=4 {
-                        explore(1, 3, 5, &opening, &[(first, p), (8, q), (other, r)]);
+                        let orders = [(first, p), (8, q), (other, r)];
+                        explore(1, 3, Homes::PLAIN, 5, &opening, &orders);
                     }
                 }
             }
@@ -374,9 +416,18 @@ fn all_interleavings_of_prices() {
 }
 
 /// The layout is the only sound table with its labels and prices: every table
-/// of these contents, some of which no sound table has.
+/// of these contents, some of which no sound table has. So it is for any homes,
+/// also by an even a, with which no shift opens.
 #[test]
 fn one_sound_table_per_set() {
+    let odd = [(1, 0), (3, 1), (2_654_435_769, 7), (u32::MAX, u32::MAX)];
+    let even = [(0, 0), (0, 2), (2, 1), (u32::MAX - 1, 4)];
+    for (a, b) in odd.into_iter().chain(even) {
+        one_sound_table(Homes { a, b });
+    }
+}
+
+fn one_sound_table(homes: Homes) {
     for n in 2..=4usize {
         let most = if n == 4 { 6 } else { 2 * n as u32 };
         let mut right = vec![0];
@@ -390,14 +441,14 @@ fn one_sound_table_per_set() {
         for table in all_lists(n, &contents) {
             let set = prices(&table);
             let right = table.iter().all(|cell| right.contains(cell));
-            let laid = set.len() < n && right && table == layout(n, &set);
-            assert_eq!(is_sound(&table), laid, "{table:?}");
+            let laid = set.len() < n && right && table == layout(homes, n, &set);
+            assert_eq!(is_sound(homes, &table), laid, "{homes:?} {table:?}");
         }
     }
 }
 
-/// Two shifts on one table, with equal labels and equal least prices ordered,
-/// close on one table: another crew, other turns, another sequence, another
+/// Two shifts on one table, with the same a and b and with equal labels and
+/// equal least prices ordered, close on one table: another crew, other turns, another sequence, another
 /// list, and more orders at prices that aren't lower.
 #[test]
 fn equal_least_prices_close_alike() {
@@ -405,6 +456,7 @@ fn equal_least_prices_close_alike() {
     for seed in 0..4000 {
         let rng = &mut Rng::new(seed);
         let n = rng.within(3, 16);
+        let homes = homes(rng);
         let label = |rng: &mut Rng| rng.within(1, 2 * n) as u32;
         let opening: Prices = (0..rng.below(n / 2))
             .map(|_| (label(rng), price(rng)))
@@ -424,7 +476,7 @@ fn equal_least_prices_close_alike() {
         }
         rng.shuffle(&mut second);
         let tables = [&first, &second].map(|orders| {
-            let mut table = layout(n, &opening);
+            let mut table = layout(homes, n, &opening);
             let count = rng.within(1, 16);
             let order = |&(label, price): &(u32, u32)| Order {
                 worker: rng.below(count) as u32,
@@ -432,7 +484,7 @@ fn equal_least_prices_close_alike() {
                 price,
             };
             let list: Vec<Order> = orders.iter().map(order).collect();
-            let mut phase = Phase::open(1, count as u64, &table, &list).unwrap();
+            let mut phase = Phase::open(1, count as u64, homes, &table, &list).unwrap();
             let mut given = 0;
             while given < list.len() || !phase.all_idle() {
                 if given < list.len() && rng.once_in(2) {
@@ -446,13 +498,16 @@ fn equal_least_prices_close_alike() {
             table
         });
         assert_eq!(tables[0], tables[1], "seed {seed}");
-        assert_eq!(tables[0], layout(n, &expected(PUT_IN, &opening, &first)));
+        assert_eq!(
+            tables[0],
+            layout(homes, n, &expected(PUT_IN, &opening, &first))
+        );
     }
     assert!(more > 1000);
 }
 
-/// Forged records and altered tables: a refusal 13, or a turn that leaves
-/// the record unspoilt and changes at most the touched cell.
+/// Forged records and altered tables, with any a and b: a refusal 13, or a turn
+/// that leaves the record unspoilt and changes at most the touched cell.
 #[test]
 fn forged_records() {
     let mut spoilt = 0;
@@ -470,6 +525,10 @@ fn forged_records() {
         phase.length = n;
         phase.count = rng.within(1, 16);
         phase.open = true;
+        phase.homes = match rng.once_in(4) {
+            true => even_homes(rng),
+            false => homes(rng),
+        };
         let worker = rng.below(phase.count);
         let cell = |rng: &mut Rng| {
             let past = usize::from(rng.once_in(8));

@@ -8,6 +8,7 @@ use lib.ListN.{length, getD, take, drop, length-append, length-drop}
 use lib.Seq.{length-take-le}
 use borrow.Author.Tests.{eqb-true, eqb-false}
 use lib.Dec.{eqb}
+use Rattle.homes.specs.declared.Hash.{Hash}
 use Rattle.prices.specs.Contents.{label}
 use Rattle.orders.specs.Orders.{orderWith, lineAt, keptOrders}
 use Rattle.orders.specs.declared.Found.{Found}
@@ -92,14 +93,14 @@ module _ (cells items : List ℕ) (w : ℕ) (x : Replay) (ready : Ready x cells 
   reached = ready .valid .reached up
 
   good : isWellFormed gateway (x .phase) ≡ true
-  good = formed gateway gateway-proper (reached .kind) (reached .crew) (reached .opened) list (x .phase) table (reached .by)
+  good = formed gateway gateway-proper (reached .kind) (reached .crew) (reached .hash) (reached .opened) list (x .phase) table (reached .by)
 
   fits : x .phase .length ≡ length table
-  fits = sized gateway gateway-proper (reached .kind) (reached .crew) (reached .opened) list (x .phase) table (reached .by)
+  fits = sized gateway gateway-proper (reached .kind) (reached .crew) (reached .hash) (reached .opened) list (x .phase) table (reached .by)
 
   turn-here : (l : Line) → Aimed (x .phase .kind) (x .phase .shut) l (x .phase .crew) list (Aim.Turn w)
-      → (m : Moved) (u : List ℕ) → m ≡ oneTurn gateway (x .phase .kind) (x .phase .length) table worker
-      → u ≡ oneTable gateway (x .phase .kind) (x .phase .length) table worker → length u ≡ length table
+      → (m : Moved) (u : List ℕ) → m ≡ oneTurn gateway (x .phase .kind) (x .phase .hash) (x .phase .length) table worker
+      → u ≡ oneTable gateway (x .phase .kind) (x .phase .hash) (x .phase .length) table worker → length u ≡ length table
       → (kept : length (u ++ drop (x .length) cells) ≡ length cells)
       → (n at : ℕ) (out out′ : List ℕ) (end : ℕ) → PrintedWithin longestAnswer (lineWith n (turnFields (m .reply))) out at out′ end
       → Answers (stateOf x cells items) n l cells out at (u ++ drop (x .length) cells) items out′ (went x w (m .worker) end)
@@ -111,7 +112,7 @@ module _ (cells items : List ℕ) (w : ℕ) (x : Replay) (ready : Ready x cells 
       answers-todo ready l (to .0 .asked) does kept refl n at out out′ end p
 
   order-here : (l : Line) (v cents : ℕ) → Aimed (x .phase .kind) (x .phase .shut) l (x .phase .crew) list (Aim.Order w v cents)
-      → (g : Given) → g ≡ oneOrder gateway (x .phase .kind) (x .phase .length) worker v cents
+      → (g : Given) → g ≡ oneOrder gateway (x .phase .kind) (x .phase .hash) (x .phase .length) worker v cents
       → (n at : ℕ) (out out′ : List ℕ) (end : ℕ) → PrintedWithin longestAnswer (lineWith n (replyFields (g .reply))) out at out′ end
       → Answers (stateOf x cells items) n l cells out at cells items out′ (went x w (g .worker) end)
   order-here l v cents to g e n at out out′ end p =
@@ -133,20 +134,20 @@ stays u cells k b l = omega (arith, length-append u (drop k cells), length-drop 
 module _ {cells items : List ℕ} {w : ℕ} {x : Replay} (ready : Ready x cells items) {l : Line} {number at : ℕ} {out out′ : List ℕ} where
   pub order-line : {v cents : ℕ} {r : Ordered}
       → Aimed (x .phase .kind) (x .phase .shut) l (x .phase .crew) (keptOrders mostItems (x .items) items) (Aim.Order w v cents)
-      → OrderAnswers (x .phase .kind) (x .phase .length) (getD (x .phase .workers) w idle) v cents number out at out′ r
+      → OrderAnswers (x .phase .kind) (x .phase .hash) (x .phase .length) (getD (x .phase .workers) w idle) v cents number out at out′ r
       → Answers (stateOf x cells items) number l cells out at cells items out′ (went x w (r .worker) (r .at))
   order-line {v} {cents} {r} to h =
       rw (h .worker) (order-here cells items w x ready (to .0 .up) (to .0 .below) l v cents to _ refl number at out out′ (r .at) (h .printed))
 
   pub turn-line : {cells′ : List ℕ} {r : Stepped}
       → Aimed (x .phase .kind) (x .phase .shut) l (x .phase .crew) (keptOrders mostItems (x .items) items) (Aim.Turn w)
-      → TurnAnswers (x .phase .kind) (x .phase .length) (getD (x .phase .workers) w idle) number (x .length) cells out at cells′ out′ r
+      → TurnAnswers (x .phase .kind) (x .phase .hash) (x .phase .length) (getD (x .phase .workers) w idle) number (x .length) cells out at cells′ out′ r
       → Answers (stateOf x cells items) number l cells out at cells′ items out′ (went x w (r .worker) (r .at))
   turn-line {r = r} to h =
       let t = take (x .length) cells in
       let a = getD (x .phase .workers) w idle in
-      let long = one-long gateway (x .phase .kind) (x .phase .length) t a in
-      let kept = stays (oneTable gateway (x .phase .kind) (x .phase .length) t a) cells (x .length) (inside (ready .roomy)) long in
+      let long = one-long gateway (x .phase .kind) (x .phase .hash) (x .phase .length) t a in
+      let kept = stays (oneTable gateway (x .phase .kind) (x .phase .hash) (x .phase .length) t a) cells (x .length) (inside (ready .roomy)) long in
       rw (h .worker, h .store) (turn-here cells items w x ready (to .0 .up) (to .0 .below) l to _ _ refl refl long kept number at out out′ (r .at) (h .printed))
 
 -- the phase's length is not 0
@@ -157,8 +158,8 @@ some-cells cells items x ready up =
     let t = take (x .length) cells in
     omega (
       arith,
-      opened-cells gateway gateway-proper (r .kind) (r .crew) (r .opened) os (x .phase) t (r .by),
-      passed gateway gateway-proper (r .kind) (r .crew) (r .opened) os (x .phase) t (r .by) .size,
+      opened-cells gateway gateway-proper (r .kind) (r .crew) (r .hash) (r .opened) os (x .phase) t (r .by),
+      passed gateway gateway-proper (r .kind) (r .crew) (r .hash) (r .opened) os (x .phase) t (r .by) .size,
     )
 
 -- the phase has no more workers than the record has places
@@ -169,8 +170,8 @@ few-crew cells items x ready up =
     let t = take (x .length) cells in
     omega (
       arith,
-      crew gateway gateway-proper (r .kind) (r .crew) (r .opened) os (x .phase) t (r .by),
-      passed gateway gateway-proper (r .kind) (r .crew) (r .opened) os (x .phase) t (r .by) .crew,
+      crew gateway gateway-proper (r .kind) (r .crew) (r .hash) (r .opened) os (x .phase) t (r .by),
+      passed gateway gateway-proper (r .kind) (r .crew) (r .hash) (r .opened) os (x .phase) t (r .by) .crew,
     )
 
 -- what a turn of one of its workers must find
@@ -196,19 +197,19 @@ pub reply-printed : (n : ℕ) (reply : Reply) {out between written after : List 
 reply-printed n reply fits room e m f = line-printed n fits room (omega arith) e (soon (reply-short reply) m) f
 
 -- ---- what the calls on one worker ensure, with what is printed
-pub order-told : {k n : ℕ} {a : Worker} {v cents number : ℕ} {out out′ : List ℕ} {at end : ℕ} {g : Given} → g ≡ oneOrder gateway k n a v cents
+pub order-told : {k : ℕ} {ab : Hash} {n : ℕ} {a : Worker} {v cents number : ℕ} {out out′ : List ℕ} {at end : ℕ} {g : Given} → g ≡ oneOrder gateway k ab n a v cents
     → PrintedWithin longestAnswer (lineWith number (replyFields (g .reply))) out at out′ end
-    → OrderAnswers k n a v cents number out at out′ (record { worker = g .worker; at = end })
+    → OrderAnswers k ab n a v cents number out at out′ (record { worker = g .worker; at = end })
 order-told {number = number} {out} {out′} {at} {end} e p =
     record {
       worker = ap (λ (x : Given). x .worker) e;
       printed = subst (λ (x : Given). PrintedWithin longestAnswer (lineWith number (replyFields (x .reply))) out at out′ end) e p;
     }
 
-pub turn-told : {k n : ℕ} {a : Worker} {number places : ℕ} {cells out out′ u : List ℕ} {at end : ℕ} {m : Moved}
-    → (m ≡ oneTurn gateway k n (take places cells) a) × (u ≡ oneTable gateway k n (take places cells) a)
+pub turn-told : {k : ℕ} {ab : Hash} {n : ℕ} {a : Worker} {number places : ℕ} {cells out out′ u : List ℕ} {at end : ℕ} {m : Moved}
+    → (m ≡ oneTurn gateway k ab n (take places cells) a) × (u ≡ oneTable gateway k ab n (take places cells) a)
     → PrintedWithin longestAnswer (lineWith number (turnFields (m .reply))) out at out′ end
-    → TurnAnswers k n a number places cells out at (u ++ drop places cells) out′ (record { worker = m .worker; at = end })
+    → TurnAnswers k ab n a number places cells out at (u ++ drop places cells) out′ (record { worker = m .worker; at = end })
 turn-told {number = number} {places} {cells} {out} {out′} {at = at} {end} e p =
     record {
       worker = ap (λ (x : Moved). x .worker) (e .0);

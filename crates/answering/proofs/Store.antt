@@ -9,6 +9,7 @@ use lib.ListN.{length, take, drop, set, replicate, length-replicate, length-set,
 use lib.Seq.{length-take-le, take-suc-set, take-all}
 use borrow.Author.Tests.{le-ltb, lt-ltb}
 use lib.Dec.{ltb, eqb}
+use Rattle.homes.specs.declared.Hash.{Hash}
 use Rattle.orders.specs.Orders.{ordersOf, keptOrders}
 use Rattle.orders.specs.declared.Order.{Order}
 use Rattle.parallel.proofs.Kept.{kept-length, kept-store}
@@ -22,7 +23,9 @@ use Rattle.protocol.specs.declared.Turned.{Turned}
 use Rattle.dealing.specs.Deal.{Dealing, run}
 use Rattle.dealing.specs.declared.Dealt.{Dealt}
 use Rattle.state.specs.declared.Phase.{Phase}
+use Rattle.state.specs.declared.Refusal.{Refusal}
 use Rattle.state.specs.declared.Refusal.the-variants.{Size}
+use Rattle.state.specs.declared.Replied.{Replied}
 use Rattle.state.specs.declared.Reply.{Reply}
 use Rattle.state.specs.declared.Reply.the-variants as reply
 use Rattle.state.specs.declared.Counted.{Counted}
@@ -33,7 +36,7 @@ use Rattle.answering.specs.declared.Done.{Done}
 use Rattle.answering.specs.declared.Replay.{Replay}
 use Rattle.text.proofs.Test.{by-test}
 use Rattle.sheet.specs.Replay.{State, tells, cellsTask, itemTask, turnTask, runTask, itemsAfter, listTold, mostSheetCells}
-use Rattle.answering.specs.Store.{stateOf, over, toldOf, countAfter, Roomy, Does, Leaves}
+use Rattle.answering.specs.Store.{stateOf, over, toldOf, openedOf, countAfter, Roomy, Does, Leaves}
 
 module _ {r : Replay} {cells : List ℕ} (h : Roomy r cells) where
   pub inside : r .length ≤ length cells
@@ -186,9 +189,17 @@ module _ {r : Replay} {cells : List ℕ} (h : Roomy r cells) where
       })
 
 -- ---- the list of a table into a list as long as it
-listed-as-counted : (t : List ℕ) → listCall gateway t t ≡ countCall gateway t
-listed-as-counted t = let e : ltb (length t) (countOf t) ≡ false = le-ltb (length t) (countOf t) (omega (arith, theorem t .count, occupied-le t)) in rw e
+listed-as-counted : (ab : Hash) (t : List ℕ) → listCall gateway ab t t ≡ countCall gateway ab t
+listed-as-counted ab t = let e : ltb (length t) (countOf t) ≡ false = le-ltb (length t) (countOf t) (omega (arith, theorem t .count, occupied-le t)) in rw e
 
-pub lists : (p : Phase) (n c : ℕ) (t : List ℕ) (x y : Counted) (d : Done) → x ≡ y → x ≡ countCall gateway t → d ≡ toldOf p n c (listTold y)
-    → d ≡ toldOf p n c (listTold (listCall gateway t t))
-lists p n c t x y d e a b = b ∙ ap (λ (z : Counted). toldOf p n c (listTold z)) (sym e ∙ a ∙ sym (listed-as-counted t))
+pub lists : (p : Phase) (n c : ℕ) (ab : Hash) (t : List ℕ) (x y : Counted) (d : Done) → x ≡ y → x ≡ countCall gateway ab t → d ≡ toldOf p n c (listTold y)
+    → d ≡ toldOf p n c (listTold (listCall gateway ab t t))
+lists p n c ab t x y d e a b = b ∙ ap (λ (z : Counted). toldOf p n c (listTold z)) (sym e ∙ a ∙ sym (listed-as-counted ab t))
+
+-- ---- an opening, by what it answers
+module _ (p : Phase) (n c : ℕ) (x y : Replied) (d : Done) (same : x ≡ y) where
+  pub opened-on : x .reply ≡ reply.Accepted → d ≡ toldOf (x .phase) n c (told.Replied reply.Accepted) → d ≡ openedOf p n c y
+  opened-on e told = rw (← same, e) told
+
+  pub opened-off : (r : Refusal) → x .reply ≡ reply.Refused r → d ≡ toldOf p n c (told.Replied (reply.Refused r)) → d ≡ openedOf p n c y
+  opened-off r e told = rw (← same, e) told

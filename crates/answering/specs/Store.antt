@@ -21,7 +21,7 @@ use Rattle.fitting.specs.declared.Task.the-variants.{Perform}
 use Rattle.answering.specs.declared.Answered.{Answered}
 use Rattle.answering.specs.declared.Done.{Done}
 use Rattle.answering.specs.declared.Replay.{Replay}
-use Rattle.sheet.specs.Replay.{State, Step, noFinishes, itemTask, Answer, answerOf, rendered, mostSheetCells, longestAnswer}
+use Rattle.sheet.specs.Replay.{State, Step, noFinishes, phaseAfter, itemTask, Answer, answerOf, rendered, mostSheetCells, longestAnswer}
 use Rattle.sheet.specs.Valid.{Valid, RunFinds}
 
 abbrev pub stateOf : Replay → (cells items : List ℕ) → State
@@ -44,6 +44,10 @@ toldOf p n c a = record { replay = record { phase = p; length = n; items = c }; 
 -- what a call answers there
 abbrev pub repliedOf : (n c : ℕ) → Replied → Done
 repliedOf n c x = toldOf (x .phase) n c (Told.Replied (x .reply))
+
+-- what an opening answers there, in a phase p
+abbrev pub openedOf : Phase → (n c : ℕ) → Replied → Done
+openedOf p n c x = toldOf (phaseAfter (x .reply) p (x .phase)) n c (Told.Replied (x .reply))
 
 -- how many of c items a close with this answer leaves, in a phase of kind k
 abbrev pub countAfter : ℕ → Reply → ℕ → ℕ

@@ -3,6 +3,7 @@ use activities::Worker;
 use dealing::Finish;
 use fitting::Reading;
 use fitting::Task;
+use homes::Hash;
 use lines::Command;
 use lines::Line;
 use printing::Told;
@@ -23,7 +24,7 @@ ghost use Rattle.protocol.specs.Calls.{closeCall, orderCall};
 ghost use Rattle.tables.specs.Calls.{listCall};
 ghost use Rattle.fitting.specs.Fitting.{mostItems, Kept};
 ghost use Rattle.sheet.specs.Replay.{State, longestAnswer, blank, cellsTask, turnTask, runTask, listTold, commanded, performed};
-ghost use Rattle.answering.specs.Store.{stateOf, replayOf, toldOf, repliedOf, countAfter, Roomy, Does, Leaves, Finds, Adds, Ready, Answers};
+ghost use Rattle.answering.specs.Store.{stateOf, replayOf, toldOf, repliedOf, openedOf, countAfter, Roomy, Does, Leaves, Finds, Adds, Ready, Answers};
 ghost use Rattle.answering.specs.One.{OrderAnswers, TurnAnswers};
 ghost use Rattle.dealing.specs.Reached.{Led};
 
@@ -75,7 +76,7 @@ pub fn start() -> Replay
 {
     let one = [0u64; 1];
     let none = [0u32; 1];
-    let refused = Phase::open_parallel(3, 1, &one, &none, &none, &none);
+    let refused = Phase::open_parallel(3, 1, Hash { a: 1, b: 0 }, &one, &none, &none, &none);
     let phase = refused.phase;
     Replay {
         phase,
@@ -140,11 +141,18 @@ fn set_cells(replay: Replay, length: u32, cells: &mut [u64]) -> Done
     )
 }
 
-// The list of orders lent is that of the items.
-fn open_phase(replay: Replay, kind: u32, crew: u32, cells: &[u64], items: &[u32]) -> Done
+// The list of orders lent is that of the items. A refused opening leaves the phase that was there.
+fn open_phase(
+    replay: Replay,
+    kind: u32,
+    crew: u32,
+    hash: Hash,
+    cells: &[u64],
+    items: &[u32],
+) -> Done
     requires { ⌜ Roomy replay (now cells) × Kept (replay .items) (now items) ⌝ }
-    ensures { λ r. ⌜ r ≡ repliedOf (replay .length) (replay .items)
-        (openCall gateway kind crew (take (replay .length) (now (cells .entry))) (keptOrders mostItems (replay .items) (now (items .entry)))) ⌝ }
+    ensures { λ r. ⌜ r ≡ openedOf (replay .phase) (replay .length) (replay .items)
+        (openCall gateway kind crew hash (take (replay .length) (now (cells .entry))) (keptOrders mostItems (replay .items) (now (items .entry)))) ⌝ }
 {
     let length = replay.length;
     let count = replay.items;
@@ -155,6 +163,7 @@ fn open_phase(replay: Replay, kind: u32, crew: u32, cells: &[u64], items: &[u32]
     let replied = Phase::open_parallel(
         kind as u64,
         crew as u64,
+        hash,
         &cells[..length],
         &items[..count],
         &items[prices..prices_end],
@@ -162,7 +171,15 @@ fn open_phase(replay: Replay, kind: u32, crew: u32, cells: &[u64], items: &[u32]
     );
     let phase = replied.phase;
     let reply = replied.reply;
-    tell(phase, length, count, Told::Replied(reply))
+    match reply {
+        Reply::Accepted => tell(phase, length, count, Told::Replied(Reply::Accepted)),
+        Reply::Refused(why) => tell(
+            replay.phase,
+            length,
+            count,
+            Told::Replied(Reply::Refused(why)),
+        ),
+    }
 }
 
 // Stores one item more: its key, its price and its worker behind those of the others.
@@ -259,14 +276,15 @@ fn close_phase(replay: Replay) -> Done
 fn list_table(replay: Replay, cells: &[u64]) -> Done
     requires { ⌜ Roomy replay (now cells) ⌝ }
     ensures { λ r. ⌜ r ≡ toldOf (replay .phase) (replay .length) (replay .items)
-        (listTold (listCall gateway (take (replay .length) (now (cells .entry))) (take (replay .length) (now (cells .entry))))) ⌝ }
+        (listTold (listCall gateway (replay .phase .hash) (take (replay .length) (now (cells .entry))) (take (replay .length) (now (cells .entry))))) ⌝ }
 {
     let length = replay.length;
-    let counted = rest::count(&cells[..length]);
+    let phase = replay.phase;
+    let counted = rest::count(phase.hash, &cells[..length]);
     match counted {
-        Counted::Count(count) => tell(replay.phase, length, replay.items, Told::Listed(count)),
+        Counted::Count(count) => tell(phase, length, replay.items, Told::Listed(count)),
         Counted::Refused(why) => tell(
-            replay.phase,
+            phase,
             length,
             replay.items,
             Told::Replied(Reply::Refused(why)),
@@ -288,7 +306,13 @@ fn carry_out(
 {
     match command {
         Command::Cells => set_cells(replay, values[0], cells),
-        Command::Open => open_phase(replay, values[0], values[1], cells, items),
+        Command::Open => {
+            let hash = Hash {
+                a: values[2],
+                b: values[3],
+            };
+            open_phase(replay, values[0], values[1], hash, cells, items)
+        }
         Command::Item => add_item(replay, values[0], values[1], values[2], items),
         Command::Order => give_order(replay, values[0], values[1], items),
         Command::Turn => take_turn(replay, values[0], cells),
@@ -381,6 +405,7 @@ pub fn answer(
 // Answers the line `number`, an order of `key` with its price to this worker, and prints from `at` on.
 pub fn answer_order(
     kind: u32,
+    hash: Hash,
     size: u32,
     worker: Worker,
     key: u32,
@@ -390,10 +415,10 @@ pub fn answer_order(
     at: usize,
 ) -> Ordered
     requires { ⌜ (0 < size) × (at + longestAnswer ≤ length (now out)) ⌝ }
-    ensures { λ r. ⌜ OrderAnswers kind size worker key price number (now (out .entry)) at (now (out .exit)) r ⌝ }
+    ensures { λ r. ⌜ OrderAnswers kind hash size worker key price number (now (out .entry)) at (now (out .exit)) r ⌝ }
 {
     let from = writing::put_number(out, at, number);
-    let given = calls::one_order(kind, size, worker, key, price);
+    let given = calls::one_order(kind, hash, size, worker, key, price);
     let next = given.worker;
     let reply = given.reply;
     let behind = printing::put_reply(out, from, reply);
@@ -407,6 +432,7 @@ pub fn answer_order(
 // Answers the line `number`, a turn of this worker on the first `places` cells, and prints from `at` on.
 pub fn answer_turn(
     kind: u32,
+    hash: Hash,
     size: u32,
     worker: Worker,
     number: u64,
@@ -417,10 +443,10 @@ pub fn answer_turn(
 ) -> Stepped
     requires { ⌜ (activityOk kind size label (worker .activity) ≡ true)
         × ((size ≡ places) × ((places ≤ length (now cells)) × (at + longestAnswer ≤ length (now out)))) ⌝ }
-    ensures { λ r. ⌜ TurnAnswers kind size worker number places (now (cells .entry)) (now (out .entry)) at (now (cells .exit)) (now (out .exit)) r ⌝ }
+    ensures { λ r. ⌜ TurnAnswers kind hash size worker number places (now (cells .entry)) (now (out .entry)) at (now (cells .exit)) (now (out .exit)) r ⌝ }
 {
     let from = writing::put_number(out, at, number);
-    let moved = calls::one_turn(kind, size, &mut cells[..places], worker);
+    let moved = calls::one_turn(kind, hash, size, &mut cells[..places], worker);
     let next = moved.worker;
     let reply = moved.reply;
     let behind = printing::put_turn(out, from, reply);

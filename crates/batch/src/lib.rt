@@ -1,5 +1,6 @@
 // A batch of calls: the phase is opened and tested once, and one worker at a time moves. What the promises on histories say of code that runs.
 use formed::is_well_formed;
+use homes::Hash;
 use inplace::run_tested;
 use singly::run_singly;
 use state::Phase;
@@ -74,6 +75,7 @@ pub fn run_from(
 pub fn run_calls(
     kind: u64,
     count: u64,
+    hash: Hash,
     cells: &mut [u64],
     order_keys: &[u32],
     order_prices: &[u32],
@@ -84,15 +86,23 @@ pub fn run_calls(
     keys: &[u32],
     answers: &mut [u64],
 ) -> Replied
-    ensures is_run { λ r. ⌜ Ran gateway kind count (now (cells .entry))
+    ensures is_run { λ r. ⌜ Ran gateway kind count hash (now (cells .entry))
         (ordersOf (now («order_keys» .entry)) (now («order_prices» .entry)) (now («order_workers» .entry)))
         (now (ops .entry)) (now (lines .entry)) (now (workers .entry)) (now (keys .entry)) (now (answers .entry))
         r (now (cells .exit)) (now (answers .exit)) ⌝ }
-    ensures promise { λ r. ⌜ Promised gateway kind count (now (cells .entry))
+    ensures promise { λ r. ⌜ Promised gateway kind count hash (now (cells .entry))
         (ordersOf (now («order_keys» .entry)) (now («order_prices» .entry)) (now («order_workers» .entry)))
         (now (ops .entry)) (now (lines .entry)) (now (workers .entry)) (now (keys .entry)) (now (answers .entry)) ⌝ }
 {
-    let opened = Phase::open_parallel(kind, count, cells, order_keys, order_prices, order_workers);
+    let opened = Phase::open_parallel(
+        kind,
+        count,
+        hash,
+        cells,
+        order_keys,
+        order_prices,
+        order_workers,
+    );
     let phase = opened.phase;
     let reply = opened.reply;
     match reply {
@@ -122,6 +132,7 @@ pub fn run_calls(
 pub fn run_calls_singly(
     kind: u64,
     count: u64,
+    hash: Hash,
     cells: &mut [u64],
     order_keys: &[u32],
     order_prices: &[u32],
@@ -132,15 +143,23 @@ pub fn run_calls_singly(
     keys: &[u32],
     answers: &mut [u64],
 ) -> Replied
-    ensures is_run { λ r. ⌜ Ran gateway kind count (now (cells .entry))
+    ensures is_run { λ r. ⌜ Ran gateway kind count hash (now (cells .entry))
         (ordersOf (now («order_keys» .entry)) (now («order_prices» .entry)) (now («order_workers» .entry)))
         (now (ops .entry)) (now (lines .entry)) (now (workers .entry)) (now (keys .entry)) (now (answers .entry))
         r (now (cells .exit)) (now (answers .exit)) ⌝ }
-    ensures promise { λ r. ⌜ Promised gateway kind count (now (cells .entry))
+    ensures promise { λ r. ⌜ Promised gateway kind count hash (now (cells .entry))
         (ordersOf (now («order_keys» .entry)) (now («order_prices» .entry)) (now («order_workers» .entry)))
         (now (ops .entry)) (now (lines .entry)) (now (workers .entry)) (now (keys .entry)) (now (answers .entry)) ⌝ }
 {
-    let opened = Phase::open_parallel(kind, count, cells, order_keys, order_prices, order_workers);
+    let opened = Phase::open_parallel(
+        kind,
+        count,
+        hash,
+        cells,
+        order_keys,
+        order_prices,
+        order_workers,
+    );
     let phase = opened.phase;
     let reply = opened.reply;
     match reply {

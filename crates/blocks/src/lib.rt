@@ -104,6 +104,7 @@ pub fn fill(
                 let w = worker as usize;
                 let ordered = answering::answer_order(
                     phase.kind,
+                    phase.hash,
                     phase.length,
                     phase.workers[w],
                     key,
@@ -120,6 +121,7 @@ pub fn fill(
                 let w = worker as usize;
                 let stepped = answering::answer_turn(
                     phase.kind,
+                    phase.hash,
                     phase.length,
                     phase.workers[w],
                     number,

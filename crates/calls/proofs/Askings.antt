@@ -27,7 +27,7 @@ module _ (M : Model) (p : Phase) (l : Found) (w v : ℕ) (a : Asked) (is : a ≡
 
   -- of a worker that the phase has, by a line that the list has: the order to that worker by itself
   pub asked-by-one : isWellFormed M p ≡ true → p .shut ≡ false → a .lacks ≡ false → a .worker < p .crew
-      → with-given p (a .worker) (oneOrder M (p .kind) (p .length) (getD (p .workers) (a .worker) idle) (a .key) (a .price)) ≡ orderFound M p l w v
+      → with-given p (a .worker) (oneOrder M (p .kind) (p .hash) (p .length) (getD (p .workers) (a .worker) idle) (a .key) (a .price)) ≡ orderFound M p l w v
   asked-by-one good up there below =
       order-by-one M p (a .worker) (a .key) (a .price) good up below
       ∙ ap (λ (lacks : Bool). orderTo M p lacks (a .worker) (a .key) (a .price)) (sym there) ∙ by-asked

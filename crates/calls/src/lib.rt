@@ -6,6 +6,7 @@ use formed::is_idle;
 use formed::is_well_formed;
 use formed::numbers_ok;
 use formed::worker_ok;
+use homes::Hash;
 use lent::line_at;
 use orders::Found;
 use orders::Order;
@@ -145,15 +146,15 @@ fn one_reply(kind: u32, activity: Activity, key: u32, price: u32) -> Reply
 }
 
 // An order to one worker by itself. The rest of its phase is not tested. All refusals share one way out, so that the worker is copied once.
-pub fn one_order(kind: u32, length: u32, worker: Worker, key: u32, price: u32) -> Given
+pub fn one_order(kind: u32, hash: Hash, length: u32, worker: Worker, key: u32, price: u32) -> Given
     requires { ⌜ 0 < length ⌝ }
-    ensures { λ r. ⌜ r ≡ oneOrder gateway kind length worker key price ⌝ }
+    ensures { λ r. ⌜ r ≡ oneOrder gateway kind hash length worker key price ⌝ }
 {
     let activity = worker.activity;
     let reply = one_reply(kind, activity, key, price);
     match reply {
         Reply::Accepted => {
-            let cell = geometry::home(length, key);
+            let cell = homes::home(hash, length, key);
             let entry = entry_for(kind, key, price);
             Given {
                 worker: Worker {
@@ -199,6 +200,7 @@ pub fn order_found(mut phase: Phase, found: Found, worker: usize, key: u32) -> R
     }
     let given = one_order(
         phase.kind,
+        phase.hash,
         phase.length,
         phase.workers[chosen],
         asked.key,
@@ -220,9 +222,10 @@ pub fn order(phase: Phase, orders: &[Order], line: usize, worker: usize, key: u3
 
 // ---- turn
 // The turn of a worker that its phase may have, on a table as long as its phase says. Neither is tested.
-pub fn one_turn(kind: u32, size: u32, cells: &mut [u64], worker: Worker) -> Moved
+pub fn one_turn(kind: u32, hash: Hash, size: u32, cells: &mut [u64], worker: Worker) -> Moved
     requires { ⌜ (activityOk kind size label (worker .activity) ≡ true) × (size ≡ length (now cells)) ⌝ }
-    ensures { λ r. ⌜ (r ≡ oneTurn gateway kind size (now (cells .entry)) worker) × (now (cells .exit) ≡ oneTable gateway kind size (now (cells .entry)) worker) ⌝ }
+    ensures { λ r. ⌜ (r ≡ oneTurn gateway kind hash size (now (cells .entry)) worker)
+        × (now (cells .exit) ≡ oneTable gateway kind hash size (now (cells .entry)) worker) ⌝ }
 {
     let activity = worker.activity;
     let Place::At(cell) = touched(activity) else {
@@ -231,7 +234,7 @@ pub fn one_turn(kind: u32, size: u32, cells: &mut [u64], worker: Worker) -> Move
             reply: TurnReply::Answered(Answer::Idle),
         };
     };
-    let outcome = step(kind, size, activity, cells[cell as usize]);
+    let outcome = step(kind, hash, size, activity, cells[cell as usize]);
     cells[cell as usize] = outcome.content;
     let next = outcome.activity;
     let answer = outcome.answer;
@@ -241,10 +244,11 @@ pub fn one_turn(kind: u32, size: u32, cells: &mut [u64], worker: Worker) -> Move
     }
 }
 
-// The same in a find phase, which leaves the table as it is. Short enough to be part of its callers.
+// The same in a find phase, which leaves the table as it is and computes no home. Short enough to be part of its callers.
 pub fn one_find(size: u32, cells: &[u64], worker: Worker) -> Moved
     requires { ⌜ (activityOk 3 size label (worker .activity) ≡ true) × (size ≡ length (now cells)) ⌝ }
-    ensures { λ r. ⌜ (r ≡ oneTurn gateway 3 size (now (cells .entry)) worker) × (now (cells .entry) ≡ oneTable gateway 3 size (now (cells .entry)) worker) ⌝ }
+    ensures { λ r. ⌜ ((ab : Hash) → (r ≡ oneTurn gateway 3 ab size (now (cells .entry)) worker)
+        × (now (cells .entry) ≡ oneTable gateway 3 ab size (now (cells .entry)) worker)) ⌝ }
 {
     let activity = worker.activity;
     let Activity::Reading { cell, .. } = activity else {
@@ -297,7 +301,13 @@ pub fn turn(mut phase: Phase, cells: &mut [u64], worker: usize) -> Turned
     if phase.crew as usize <= worker {
         return turn_refused(phase, Refusal::NoWorker);
     }
-    let moved = one_turn(phase.kind, phase.length, cells, phase.workers[worker]);
+    let moved = one_turn(
+        phase.kind,
+        phase.hash,
+        phase.length,
+        cells,
+        phase.workers[worker],
+    );
     let next = moved.worker;
     let reply = moved.reply;
     phase.workers[worker] = next;

@@ -7,6 +7,7 @@ use Prim.Native.Nat.{ℕ, _<_}
 use native.Mathlib.Omega.{arith}
 use lib.ListN.{length, getD, set}
 use lib.Seq.{getD-set-same}
+use Rattle.homes.specs.declared.Hash.{Hash}
 use Rattle.prices.specs.Contents.{label}
 use Rattle.orders.specs.declared.Order.{Order}
 use Rattle.activities.specs.Activities.{entryOf, idle}
@@ -70,32 +71,32 @@ left-over : (keys : List ℕ) (w : ℕ) (b : Bool) → w < length keys → getD 
 left-over keys w true l = getD-set-same keys w 0 0 l
 left-over keys w false l = refl
 
-module _ (M : Model) (proper : Proper M) (k m : ℕ) (t : List ℕ) (os : List Order) where
+module _ (M : Model) (proper : Proper M) (k m : ℕ) (ab : Hash) (t : List ℕ) (os : List Order) where
   -- in a find phase the entry of a worker's unfinished operation is the one that it looks for
-  key-kept : (p : Phase) (u : List ℕ) (h : From M k m t os p u) (w : ℕ) → k ≡ 3 → getD (after M k m t os (h .calls) .pending) w 0 ≡ entryOf (doing p w)
-  key-kept p u h w find = rw (h .phase) (let c = shown M proper k m t os p u h .1 .crew in c .agree w .entry find ∙ ap entryOf (sym (c .same w)))
+  key-kept : (p : Phase) (u : List ℕ) (h : From M k m ab t os p u) (w : ℕ) → k ≡ 3 → getD (after M k m ab t os (h .calls) .pending) w 0 ≡ entryOf (doing p w)
+  key-kept p u h w find = rw (h .phase) (let c = shown M proper k m ab t os p u h .1 .crew in c .agree w .entry find ∙ ap entryOf (sym (c .same w)))
 
-  module _ (p : Phase) (u : List ℕ) (h : From M k m t os p u) (w : ℕ) (l : w < p .crew) (a : Answer) (is : turnCall M p u w .reply ≡ Answered a) where
+  module _ (p : Phase) (u : List ℕ) (h : From M k m ab t os p u) (w : ℕ) (l : w < p .crew) (a : Answer) (is : turnCall M p u w .reply ≡ Answered a) where
     abbrev before : History
-    before = after M k m t os (h .calls)
+    before = after M k m ab t os (h .calls)
 
     abbrev behind : History
-    behind = after M k m t os (turn-from M proper k m t os p u h w .calls)
+    behind = after M k m ab t os (turn-from M proper k m ab t os p u h w .calls)
 
     adds : Adds w a before behind
     unfolding turn-from
-    adds = rw (after-one M proper k m t os (h .calls) (turn w)) (turn-adds M os before w a (rw (h .phase, h .table) at is))
+    adds = rw (after-one M proper k m ab t os (h .calls) (turn w)) (turn-adds M os before w a (rw (h .phase, h .table) at is))
 
     -- the history's claims on the worker's entry, before the turn and behind it, and on the answers said make the turn a move of its worker
     pub turn-moves : Moves k t (doing p w) (doing (turnCall M p u w .phase) w) a
     turn-moves =
-        let g = turn-from M proper k m t os p u h w in
-        let x = shown M proper k m t os p u h .1 in
+        let g = turn-from M proper k m ab t os p u h w in
+        let x = shown M proper k m ab t os p u h .1 in
         let left : getD (behind .pending) w 0 ≡ entryLeft a (getD (before .pending) w 0)
         = ap (λ (keys : List ℕ). getD keys w 0) (adds .0)
-        ∙ left-over (before .pending) w (isFinish a) (omega (arith, x .crew .places, crew M proper k m t os p u h)) in
+        ∙ left-over (before .pending) w (isFinish a) (omega (arith, x .crew .places, crew M proper k m ab t os p u h)) in
         moves k t _ _ (before .said) a
-        (subst (λ y. Answers y (doing p w) (doing (turnCall M p u w .phase) w) a) (kind M proper k m t os p u h) (turns M p u w .answered a is))
+        (subst (λ y. Answers y (doing p w) (doing (turnCall M p u w .phase) w) a) (kind M proper k m ab t os p u h) (turns M p u w .answered a is))
         (λ find. ap (entryLeft a) (sym (key-kept p u h w find)) ∙ sym left ∙ key-kept _ _ g w find)
-        (λ find. rw (adds .1, key-kept p u h w find) at (all-lists M proper k m t os (g .accepted) (g .calls) .right find))
+        (λ find. rw (adds .1, key-kept p u h w find) at (all-lists M proper k m ab t os (g .accepted) (g .calls) .right find))
         (λ i. ap (λ (q : Phase). doing q w) (turns M p u w .idle i .0))

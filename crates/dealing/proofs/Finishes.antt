@@ -10,6 +10,7 @@ use lib.ListN.{length, getD, length-set, length-replicate}
 use lib.Seq.{getD-set-same, getD-set-other}
 use Rattle.ring.proofs.Split.{by-eq}
 use Rattle.ring.proofs.Tests.{by-test, not-both}
+use Rattle.homes.specs.declared.Hash.{Hash}
 use Rattle.prices.specs.Contents.{label}
 use Rattle.orders.specs.declared.Order.{Order}
 use Rattle.rule.proofs.Crew.{replicate-at}
@@ -72,15 +73,15 @@ module _ (k : ℕ) (t : List ℕ) where
   stands-on before now next f a (done b i fin) (ends busy free _) = absurd (busy i)
 
 -- ---- a run that began with the phase p, in a phase opened with kind k and m workers on the table t, has come to d
-pub record Standing (M : Model) (k m : ℕ) (t : List ℕ) (os : List Order) (p : Phase) (d : Dealing) : Type 0 where
-  pub opened : Opened M k m t os d
+pub record Standing (M : Model) (k m : ℕ) (ab : Hash) (t : List ℕ) (os : List Order) (p : Phase) (d : Dealing) : Type 0 where
+  pub opened : Opened M k m ab t os d
   pub frame : Framed p (d .dealt .phase)
   pub shut : d .dealt .phase .shut ≡ p .shut
   pub places : length (d .dealt .finishes) ≡ M .room
   pub each : (w : ℕ) → Stands k t (doing p w) (doing (d .dealt .phase) w) (getD (d .dealt .finishes) w unfinished)
 
 framed-on : (p q r : Phase) → Framed p q → Framed q r → Framed p r
-framed-on p q r f g = record { kind = g .kind ∙ f .kind; cells = g .cells ∙ f .cells; crew = g .crew ∙ f .crew; places = g .places ∙ f .places }
+framed-on p q r f g = record { kind = g .kind ∙ f .kind; cells = g .cells ∙ f .cells; crew = g .crew ∙ f .crew; hash = g .hash ∙ f .hash; places = g .places ∙ f .places }
 
 module _ (M : Model) (proper : Proper M) where
   -- an accepted turn has an answer
@@ -92,43 +93,43 @@ module _ (M : Model) (proper : Proper M) where
     answers : turnCheck M p u w ≡ Accepted → (a : Answer) × (turnCall M p u w .reply ≡ Answered a)
     answers ok = rw ok (at-answers (touched (doing p w)))
 
-  module _ (k m : ℕ) (t : List ℕ) (os : List Order) (p : Phase) where
-    deal-to-stands : (w : ℕ) (d : Dealing) → Standing M k m t os p d → w < m → Standing M k m t os p (dealTo M w d)
+  module _ (k m : ℕ) (ab : Hash) (t : List ℕ) (os : List Order) (p : Phase) where
+    deal-to-stands : (w : ℕ) (d : Dealing) → Standing M k m ab t os p d → w < m → Standing M k m ab t os p (dealTo M w d)
     unfolding dealTo
     deal-to-stands w d s l =
         let q = d .dealt .phase in
         let u = d .table in
         let fs = d .dealt .finishes in
         let h = s .opened .from in
-        let below : w < q .crew = omega (arith, crew M proper k m t os q u h) in
-        let ok = accepts M proper k m t os q u h w (s .opened .running) below in
+        let below : w < q .crew = omega (arith, crew M proper k m ab t os q u h) in
+        let ok = accepts M proper k m ab t os q u h w (s .opened .running) below in
         let (a, is) = answers q u w ok in
-        let room : w < length fs = omega (arith, s .places, few-workers M proper k m t os q u h) in
+        let room : w < length fs = omega (arith, s .places, few-workers M proper k m ab t os q u h) in
         let turned = turns M q u w in
         record {
-          opened = deal-to-opened M proper k m t os w d (s .opened);
+          opened = deal-to-opened M proper k m ab t os w d (s .opened);
           frame = framed-on p q _ (s .frame) (turned .others .frame);
           shut = turned .others .shut ∙ s .shut;
           places = length-set fs w _ ∙ s .places;
           each = λ i. by-eq i w
               (λ z. rw (z, getD-set-same fs w (finishAfter (getD fs w unfinished) (turnCall M q u w .reply)) unfinished room, is)
-              (stands-on k t _ _ _ _ a (s .each w) (turn-moves M proper k m t os q u h w below a is)))
+              (stands-on k t _ _ _ _ a (s .each w) (turn-moves M proper k m ab t os q u h w below a is)))
               (λ z. rw (getD-set-other fs w i (finishAfter (getD fs w unfinished) (turnCall M q u w .reply)) unfinished z, turned .others .others i z) (s .each i));
         }
 
-    deal-stands : (w : ℕ) (d : Dealing) → Standing M k m t os p d → w ≤ m → Standing M k m t os p (deal M w d)
+    deal-stands : (w : ℕ) (d : Dealing) → Standing M k m ab t os p d → w ≤ m → Standing M k m ab t os p (deal M w d)
     unfolding deal
     deal-stands zero d s l = s
     deal-stands (suc w) d s l = deal-to-stands w (deal M w d) (deal-stands w d s (omega arith)) (omega arith)
 
-    laps-stand : (f : ℕ) (d : Dealing) → Standing M k m t os p d → Standing M k m t os p (laps M f d)
+    laps-stand : (f : ℕ) (d : Dealing) → Standing M k m ab t os p d → Standing M k m ab t os p (laps M f d)
     unfolding laps
     laps-stand zero d s = s
-    laps-stand (suc f) d s = either (Standing M k m t os p) (atRest d) s
+    laps-stand (suc f) d s = either (Standing M k m ab t os p) (atRest d) s
         (laps-stand f (lap M d) (deal-stands (d .dealt .phase .crew) d s
-        (omega (arith, crew M proper k m t os (d .dealt .phase) (d .table) (s .opened .from)))))
+        (omega (arith, crew M proper k m ab t os (d .dealt .phase) (d .table) (s .opened .from)))))
 
-    pub run-stands : (u : List ℕ) → From M k m t os p u → p .shut ≡ false → Standing M k m t os p (run M p u)
+    pub run-stands : (u : List ℕ) → From M k m ab t os p u → p .shut ≡ false → Standing M k m ab t os p (run M p u)
     run-stands u h up = laps-stand (enough p) (begun M p u)
         (record {
           opened = record { from = h; running = up };

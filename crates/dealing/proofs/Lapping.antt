@@ -7,6 +7,7 @@ use native.Mathlib.Numerals.{add-one}
 use native.Mathlib.Omega.{arith}
 use lib.ListN.{length, getD, set}
 use lib.Seq.{set-getD}
+use Rattle.homes.specs.declared.Hash.{Hash}
 use Rattle.prices.specs.Contents.{label}
 use Rattle.orders.specs.declared.Order.{Order}
 use Rattle.state.specs.Model.{Model, Proper}
@@ -47,16 +48,16 @@ pub record Lapping (M : Model) (d₀ : Dealing) (count : ℕ) (d : Dealing) (w :
   pub same : d ≡ deal M w d₀
 
 module _ (M : Model) (proper : Proper M) where
-  module _ (k m : ℕ) (t : List ℕ) (os : List Order) (d : Dealing) (o : Opened M k m t os d) (w : ℕ) where
+  module _ (k m : ℕ) (ab : Hash) (t : List ℕ) (os : List Order) (d : Dealing) (o : Opened M k m ab t os d) (w : ℕ) where
     one-dealt : w < d .dealt .phase .crew
         → let p = d .dealt .phase in
         let worker = getD (p .workers) w idle in
-        withMoved d w (oneTurn M (p .kind) (p .length) (d .table) worker) (oneTable M (p .kind) (p .length) (d .table) worker) ≡ dealTo M w d
+        withMoved d w (oneTurn M (p .kind) (p .hash) (p .length) (d .table) worker) (oneTable M (p .kind) (p .hash) (p .length) (d .table) worker) ≡ dealTo M w d
     unfolding dealTo
     one-dealt l =
         let p = d .dealt .phase in
-        let (a, b) = turn-by-one M p (d .table) w (formed M proper k m t os p (d .table) (o .from)) (o .running)
-        (sized M proper k m t os p (d .table) (o .from)) l in
+        let (a, b) = turn-by-one M p (d .table) w (formed M proper k m ab t os p (d .table) (o .from)) (o .running)
+        (sized M proper k m ab t os p (d .table) (o .from)) l in
         rw (← a, b)
 
     -- an idle worker's turn changes nothing
@@ -64,7 +65,7 @@ module _ (M : Model) (proper : Proper M) where
     unfolding dealTo
     idle-dealt l free =
         let p = d .dealt .phase in
-        let ok = accepts M proper k m t os p (d .table) (o .from) w (o .running) l in
+        let ok = accepts M proper k m ab t os p (d .table) (o .from) w (o .running) l in
         let a : doing p w ≡ Idle = idle-says (doing p w) .0 free in
         rw (ok, a, set-getD)
 
@@ -77,32 +78,32 @@ module _ (M : Model) (proper : Proper M) where
       reached = h;
       running = up;
       all = e;
-      few = omega (arith, few-workers M proper (h .kind) (h .crew) (h .opened) os (d₀ .dealt .phase) (d₀ .table) (h .by));
+      few = omega (arith, few-workers M proper (h .kind) (h .crew) (h .hash) (h .opened) os (d₀ .dealt .phase) (d₀ .table) (h .by));
       within = omega arith;
       same = refl;
     }
 
     module _ (d : Dealing) (w : ℕ) (g : Lapping M d₀ count d w) where
-      abbrev from : From M (g .reached .kind) (g .reached .crew) (g .reached .opened) (g .list) (d₀ .dealt .phase) (d₀ .table)
+      abbrev from : From M (g .reached .kind) (g .reached .crew) (g .reached .hash) (g .reached .opened) (g .list) (d₀ .dealt .phase) (d₀ .table)
       from = g .reached .by
 
-      here : Opened M (g .reached .kind) (g .reached .crew) (g .reached .opened) (g .list) d
+      here : Opened M (g .reached .kind) (g .reached .crew) (g .reached .hash) (g .reached .opened) (g .list) d
       here = rw (g .same)
-          (deal-opened M proper (g .reached .kind) (g .reached .crew) (g .reached .opened) (g .list) w d₀ (record { from = from; running = g .running }))
+          (deal-opened M proper (g .reached .kind) (g .reached .crew) (g .reached .hash) (g .reached .opened) (g .list) w d₀ (record { from = from; running = g .running }))
 
       below : w < count → w < d .dealt .phase .crew
       below l =
           omega (
             arith,
             g .all,
-            crew M proper (g .reached .kind) (g .reached .crew) (g .reached .opened) (g .list) (d .dealt .phase) (d .table) (here .from),
-            crew M proper (g .reached .kind) (g .reached .crew) (g .reached .opened) (g .list) (d₀ .dealt .phase) (d₀ .table) from,
+            crew M proper (g .reached .kind) (g .reached .crew) (g .reached .hash) (g .reached .opened) (g .list) (d .dealt .phase) (d .table) (here .from),
+            crew M proper (g .reached .kind) (g .reached .crew) (g .reached .hash) (g .reached .opened) (g .list) (d₀ .dealt .phase) (d₀ .table) from,
           )
 
       lap-on : w < count
           → let p = d .dealt .phase in
           let worker = getD (p .workers) w idle in
-          Lapping M d₀ count (withMoved d w (oneTurn M (p .kind) (p .length) (d .table) worker) (oneTable M (p .kind) (p .length) (d .table) worker)) (w + 1)
+          Lapping M d₀ count (withMoved d w (oneTurn M (p .kind) (p .hash) (p .length) (d .table) worker) (oneTable M (p .kind) (p .hash) (p .length) (d .table) worker)) (w + 1)
       lap-on l =
           record {
             list = g .list;
@@ -111,7 +112,7 @@ module _ (M : Model) (proper : Proper M) where
             all = g .all;
             few = g .few;
             within = omega arith;
-            same = one-dealt (g .reached .kind) (g .reached .crew) (g .reached .opened) (g .list) d here w (below l) ∙ ap (dealTo M w) (g .same)
+            same = one-dealt (g .reached .kind) (g .reached .crew) (g .reached .hash) (g .reached .opened) (g .list) d here w (below l) ∙ ap (dealTo M w) (g .same)
                 ∙ unfold deal in (rw add-one);
           }
 
@@ -119,7 +120,7 @@ module _ (M : Model) (proper : Proper M) where
       pub lap-next : w < count → (moved : Moved) (u : List ℕ) (f : Finish)
           → let p = d .dealt .phase in
           let worker = getD (p .workers) w idle in
-          moved ≡ oneTurn M (p .kind) (p .length) (d .table) worker → u ≡ oneTable M (p .kind) (p .length) (d .table) worker
+          moved ≡ oneTurn M (p .kind) (p .hash) (p .length) (d .table) worker → u ≡ oneTable M (p .kind) (p .hash) (p .length) (d .table) worker
           → f ≡ finishAfter (getD (d .dealt .finishes) w unfinished) (moved .reply)
           → Lapping M d₀ count
           (record { dealt = record { phase = withWorker p w (moved .worker .activity); finishes = set (d .dealt .finishes) w f }; table = u }) (w + 1)
@@ -129,7 +130,7 @@ module _ (M : Model) (proper : Proper M) where
       pub lap-keeps : w < count → (moved : Moved) (u : List ℕ)
           → let p = d .dealt .phase in
           let worker = getD (p .workers) w idle in
-          moved ≡ oneTurn M (p .kind) (p .length) (d .table) worker → u ≡ oneTable M (p .kind) (p .length) (d .table) worker
+          moved ≡ oneTurn M (p .kind) (p .hash) (p .length) (d .table) worker → u ≡ oneTable M (p .kind) (p .hash) (p .length) (d .table) worker
           → ((f : Finish) → finishAfter f (moved .reply) ≡ f)
           → Lapping M d₀ count (record { dealt = record { phase = withWorker p w (moved .worker .activity); finishes = d .dealt .finishes }; table = u }) (w + 1)
       lap-keeps l moved u a b k =
@@ -139,13 +140,13 @@ module _ (M : Model) (proper : Proper M) where
 
       -- the same in a find phase, which leaves the table as it is
       module _ (l : w < count) (moved : Moved) (k : d .dealt .phase .kind ≡ 3)
-          (a : let p = d .dealt .phase in moved ≡ oneTurn M 3 (p .length) (d .table) (getD (p .workers) w idle))
-          (b : let p = d .dealt .phase in d .table ≡ oneTable M 3 (p .length) (d .table) (getD (p .workers) w idle)) where
-        found : let p = d .dealt .phase in moved ≡ oneTurn M (p .kind) (p .length) (d .table) (getD (p .workers) w idle)
-        found = let p = d .dealt .phase in a ∙ ap (λ (x : ℕ). oneTurn M x (p .length) (d .table) (getD (p .workers) w idle)) (sym k)
+          (a : let p = d .dealt .phase in moved ≡ oneTurn M 3 (p .hash) (p .length) (d .table) (getD (p .workers) w idle))
+          (b : let p = d .dealt .phase in d .table ≡ oneTable M 3 (p .hash) (p .length) (d .table) (getD (p .workers) w idle)) where
+        found : let p = d .dealt .phase in moved ≡ oneTurn M (p .kind) (p .hash) (p .length) (d .table) (getD (p .workers) w idle)
+        found = let p = d .dealt .phase in a ∙ ap (λ (x : ℕ). oneTurn M x (p .hash) (p .length) (d .table) (getD (p .workers) w idle)) (sym k)
 
-        unchanged : let p = d .dealt .phase in d .table ≡ oneTable M (p .kind) (p .length) (d .table) (getD (p .workers) w idle)
-        unchanged = let p = d .dealt .phase in b ∙ ap (λ (x : ℕ). oneTable M x (p .length) (d .table) (getD (p .workers) w idle)) (sym k)
+        unchanged : let p = d .dealt .phase in d .table ≡ oneTable M (p .kind) (p .hash) (p .length) (d .table) (getD (p .workers) w idle)
+        unchanged = let p = d .dealt .phase in b ∙ ap (λ (x : ℕ). oneTable M x (p .hash) (p .length) (d .table) (getD (p .workers) w idle)) (sym k)
 
         pub found-next : (f : Finish) → f ≡ finishAfter (getD (d .dealt .finishes) w unfinished) (moved .reply)
             → Lapping M d₀ count
@@ -167,7 +168,7 @@ module _ (M : Model) (proper : Proper M) where
             all = g .all;
             few = g .few;
             within = omega arith;
-            same = sym (idle-dealt (g .reached .kind) (g .reached .crew) (g .reached .opened) (g .list) d here w (below l) free) ∙ ap (dealTo M w) (g .same)
+            same = sym (idle-dealt (g .reached .kind) (g .reached .crew) (g .reached .hash) (g .reached .opened) (g .list) d here w (below l) free) ∙ ap (dealTo M w) (g .same)
                 ∙ unfold deal in (rw add-one);
           }
 
@@ -177,10 +178,10 @@ module _ (M : Model) (proper : Proper M) where
           (activityOk (p .kind) (p .length) label (doing p w) ≡ true) × (p .length ≡ length (d .table))
       lap-good l =
           let p = d .dealt .phase in
-          let good = formed M proper (g .reached .kind) (g .reached .crew) (g .reached .opened) (g .list) p (d .table) (here .from) in
+          let good = formed M proper (g .reached .kind) (g .reached .crew) (g .reached .hash) (g .reached .opened) (g .list) p (d .table) (here .from) in
           let b = below l in (
             good-worker M p good w (omega arith),
-            sized M proper (g .reached .kind) (g .reached .crew) (g .reached .opened) (g .list) p (d .table) (here .from),
+            sized M proper (g .reached .kind) (g .reached .crew) (g .reached .hash) (g .reached .opened) (g .list) p (d .table) (here .from),
           )
 
       pub found-good : w < count → d .dealt .phase .kind ≡ 3

@@ -6,6 +6,7 @@ use Prim.Native.Nat.{ℕ, _≤_, _<_}
 use native.Mathlib.Omega.{arith}
 use lib.ListN.{length}
 use borrow.Author.Tests.{eq-eqb, lt-leb}
+use Rattle.homes.specs.declared.Hash.{Hash}
 use Rattle.prices.specs.Contents.{label}
 use Rattle.orders.specs.Orders.{lineAt}
 use Rattle.orders.specs.declared.Order.{Order}
@@ -31,8 +32,8 @@ use Rattle.dealing.specs.Reached.{From}
 
 module _ (M : Model) (proper : Proper M) where
   -- ---- what a call leaves
-  pub after-one : (k m : ℕ) (t : List ℕ) (os : List Order) (cs : List Call) (c : Call) → after M k m t os (cs ++ c ∷ []) ≡ call M os c (after M k m t os cs)
-  after-one k m t os cs c = run-last M os cs c (opening M k m t os)
+  pub after-one : (k m : ℕ) (ab : Hash) (t : List ℕ) (os : List Order) (cs : List Call) (c : Call) → after M k m ab t os (cs ++ c ∷ []) ≡ call M os c (after M k m ab t os cs)
+  after-one k m ab t os cs c = run-last M os cs c (opening M k m ab t os)
 
   -- the calls change the phase state and the table as they say, whatever they answer
   order-leaves : (os : List Order) (i w v : ℕ) (s : History)
@@ -51,28 +52,28 @@ module _ (M : Model) (proper : Proper M) where
       let r = turnCall M (s .phase) (s .table) w in
       let t = turnTable M (s .phase) (s .table) w in (sym (turn-phase w t (r .phase) (r .reply) s), sym (turn-table w t (r .phase) (r .reply) s))
 
-  module _ (k m : ℕ) (t : List ℕ) (os : List Order) (p : Phase) (u : List ℕ) (h : From M k m t os p u) where
+  module _ (k m : ℕ) (ab : Hash) (t : List ℕ) (os : List Order) (p : Phase) (u : List ℕ) (h : From M k m ab t os p u) where
     -- ---- what holds
-    pub passed : OpenPassed M k m t os
-    passed = open-passed M k m t os (h .accepted)
+    pub passed : OpenPassed M k m ab t os
+    passed = open-passed M k m ab t os (h .accepted)
 
-    pub homes : (x : ℕ) → M .home (length t) x < length t
-    homes x = proper .homes (length t) x (omega (arith, proper .some, passed .size))
+    pub homes : (x : ℕ) → M .home ab (length t) x < length t
+    homes x = proper .homes ab (length t) x (omega (arith, proper .some, passed .size))
 
     abbrev pub history : History
-    history = after M k m t os (h .calls)
+    history = after M k m ab t os (h .calls)
 
-    pub shown : (es : List Event) × Shows k (length t) m history (events.after k (length t) m label (M .home (length t)) t es)
-    shown = simulates M k (length t) m os (h .calls) (opening M k m t os) (events.opened m t)
-        (opening-shows M proper k m t os (h .accepted))
+    pub shown : (es : List Event) × Shows k (length t) m ab history (events.after k (length t) m label (M .home ab (length t)) t es)
+    shown = simulates M k (length t) m ab os (h .calls) (opening M k m ab t os) (events.opened m t)
+        (opening-shows M proper k m ab t os (h .accepted))
 
     -- in a put-in shift the labels at opening and those ordered are fewer than the cells
-    pub roomy : k ≡ 1 → Roomy (length t) label t (events.after k (length t) m label (M .home (length t)) t (shown .0))
-    roomy = known k (length t) m (M .home (length t)) homes t (passed .sound proper) (passed .kind) os (λ is. passed .list is .room) (shown .0) history (shown .1)
-        (run-taken M k os (h .calls) (opening M k m t os) (opening-taken M proper k m t os (h .accepted))) .room
+    pub roomy : k ≡ 1 → Roomy (length t) label t (events.after k (length t) m label (M .home ab (length t)) t (shown .0))
+    roomy = known k (length t) m ab (M .home ab (length t)) homes t (passed .sound proper) (passed .kind) os (λ is. passed .list is .room) (shown .0) history (shown .1)
+        (run-taken M k os (h .calls) (opening M k m ab t os) (opening-taken M proper k m ab t os (h .accepted))) .room
 
-    claim : Claim M k m t os (h .calls)
-    claim = all-lists M proper k m t os (h .accepted) (h .calls)
+    claim : Claim M k m ab t os (h .calls)
+    claim = all-lists M proper k m ab t os (h .accepted) (h .calls)
 
     pub formed : isWellFormed M p ≡ true
     formed = rw (h .phase) (claim .formed)
@@ -96,7 +97,7 @@ module _ (M : Model) (proper : Proper M) where
     accepts w up l = simp (formed, up, eq-eqb _ _ sized, lt-leb _ _ l)
 
     -- ---- what one more call leaves
-    pub order-from : (i w v : ℕ) → From M k m t os (orderCall M p os i w v .phase) u
+    pub order-from : (i w v : ℕ) → From M k m ab t os (orderCall M p os i w v .phase) u
     order-from i w v =
         record {
           calls = h .calls ++ order i w v ∷ [];
@@ -105,7 +106,7 @@ module _ (M : Model) (proper : Proper M) where
           table = rw (after-one, h .table) (order-leaves os i w v history .1);
         }
 
-    unfoldable pub turn-from : (w : ℕ) → From M k m t os (turnCall M p u w .phase) (turnTable M p u w)
+    unfoldable pub turn-from : (w : ℕ) → From M k m ab t os (turnCall M p u w .phase) (turnTable M p u w)
     turn-from w =
         record {
           calls = h .calls ++ turn w ∷ [];

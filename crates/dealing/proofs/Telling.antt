@@ -47,10 +47,11 @@ pub tells-promise : TellsPromise
 tells-promise M proper os p u h up w a e =
     let k = h .kind in
     let m = h .crew in
+    let ab = h .hash in
     let t = h .opened in
     let below : w < p .crew = turn-passed M p u w (accepted M p u w a e) .3 in
-    let moves = turn-moves M proper k m t os p u (h .by) w below a e in
-    let same : k ≡ 3 → u ≡ t = λ find. h .by .table ∙ all-lists M proper k m t os (h .by .accepted) (h .by .calls) .unchanged find in
+    let moves = turn-moves M proper k m ab t os p u (h .by) w below a e in
+    let same : k ≡ 3 → u ≡ t = λ find. h .by .table ∙ all-lists M proper k m ab t os (h .by .accepted) (h .by .calls) .unchanged find in
     let v = label (entryOf (doing p w)) in
     record {
       price = λ q is. let (find, right) = price-ends q (subst (Moves k t _ _) is moves) in subst (λ x. Sold label x v q) (sym (same find)) (right q .0 refl);

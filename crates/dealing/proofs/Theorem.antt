@@ -30,8 +30,8 @@ run-promise M proper os p u h up =
     let d = run M p u in
     let rest = run-rests M proper os p u h up in
     let free : (w : ℕ) → doing (d .dealt .phase) w ≡ Idle = all-idle-says (d .dealt .phase .workers) .0 rest in
-    let is = kind M proper k (h .crew) t os p u (h .by) in
-    let s = run-stands M proper k (h .crew) t os p u (h .by) up in
+    let is = kind M proper k (h .crew) (h .hash) t os p u (h .by) in
+    let s = run-stands M proper k (h .crew) (h .hash) t os p u (h .by) up in
     let ends : (w : ℕ) → doing p w ≢ Idle → Ends k t (entryOf (doing p w)) (finishOf d w) = λ w. finish-right k t _ _ _ (free w) (s .each w) in
     let (r, turns) = laps-agree M proper (enough p) (begun M p u) (p .crew) refl in
     record {
@@ -41,7 +41,7 @@ run-promise M proper os p u h up =
       finished = λ w b ne. ends-finished k t _ _ (ends w b) (λ z. ne (is ∙ z));
       answered = λ w b find. ends-answered k t _ _ (ends w b) (sym is ∙ find);
       right = λ w b find q.
-          let same = all-lists M proper k (h .crew) t os (h .by .accepted) (h .by .calls) .unchanged (sym is ∙ find) in
+          let same = all-lists M proper k (h .crew) (h .hash) t os (h .by .accepted) (h .by .calls) .unchanged (sym is ∙ find) in
           subst (λ x. (finishOf d w ≡ Price q) ↔ Sold label x (label (entryOf (doing p w))) q) (sym (h .by .table ∙ same)) (ends-right k t _ _ (ends w b) (sym is ∙ find) q);
       places = s .places;
       dealt = (r, λ lent x a b. turns lent x (sym a, sym b));

@@ -113,7 +113,13 @@ pub fn run(mut phase: Phase, cells: &mut [u64]) -> Dealt
                 w += 1;
                 continue;
             }
-            let moved = calls::one_turn(phase.kind, phase.length, cells, phase.workers[w]);
+            let moved = calls::one_turn(
+                phase.kind,
+                phase.hash,
+                phase.length,
+                cells,
+                phase.workers[w],
+            );
             let next = moved.worker;
             let reply = moved.reply;
             phase.workers[w] = next;

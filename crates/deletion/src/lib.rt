@@ -1,5 +1,6 @@
 // The steps of a delete.
 use activities::Activity;
+use homes::Hash;
 use prices::PRICES;
 use probing::ends;
 use probing::goes;
@@ -8,36 +9,36 @@ use probing::unmoved;
 use rule::Answer;
 use rule::Outcome;
 ghost use mathlib.Core.Path.{_≡_};
-ghost use Prim.Native.Nat.{_<_};
-ghost use Rattle.layout.specs.Home.{modulo};
+ghost use Prim.Native.Nat.{ℕ, _<_};
+ghost use Rattle.homes.specs.Homes.{spread};
 ghost use Rattle.prices.specs.Contents.{label};
 ghost use Rattle.activities.specs.Activities.{cellsOf, Below};
 ghost use Rattle.rule.specs.Rule;
 ghost use Rattle.rule.specs.Rule.{deleteStep};
 
 // The home of the key of `entry`.
-fn home(length: u32, entry: u64) -> u32
+fn home(hash: Hash, length: u32, entry: u64) -> u32
     requires { ⌜ 0 < length ⌝ }
-    ensures { λ r. ⌜ r ≡ modulo length (label entry) ⌝ }
+    ensures { λ r. ⌜ r ≡ spread hash length (label entry) ⌝ }
 {
-    geometry::home(length, (entry / PRICES) as u32)
+    homes::home(hash, length, (entry / PRICES) as u32)
 }
 
 // Whether `content`, in cell `at`, may replace the content of `cell`.
-fn fits(length: u32, content: u64, at: u32, cell: u32) -> bool
+fn fits(hash: Hash, length: u32, content: u64, at: u32, cell: u32) -> bool
     requires { ⌜ (at < length) × (cell < length) ⌝ }
-    ensures { λ r. ⌜ r ≡ Rule.fits length label (modulo length) content at cell ⌝ }
+    ensures { λ r. ⌜ r ≡ Rule.fits length label (spread hash length) content at cell ⌝ }
 {
     if content / PRICES == 0 {
         return true;
     }
-    let start = home(length, content);
+    let start = home(hash, length, content);
     geometry::dist(length, start, cell) < geometry::dist(length, start, at)
 }
 
 // With the content of cell `from` taken: on at cell `at`, or, if no cell lies between, about to replace `cell`.
 fn narrow(length: u32, entry: u64, cell: u32, from: u32, taken: u64, at: u32) -> Activity
-    ensures { λ r. ⌜ r ≡ Rule.narrow length label (modulo length) entry cell from taken at ⌝ }
+    ensures { λ r. ⌜ ((home : ℕ → ℕ) → r ≡ Rule.narrow length label home entry cell from taken at) ⌝ }
 {
     if at == cell {
         return Activity::Replacing {
@@ -58,7 +59,7 @@ fn narrow(length: u32, entry: u64, cell: u32, from: u32, taken: u64, at: u32) ->
 
 fn delete_reading(length: u32, entry: u64, cell: u32, content: u64) -> Outcome
     requires { ⌜ cell < length ⌝ }
-    ensures { λ r. ⌜ r ≡ deleteStep length label (modulo length) (Activity.Reading entry cell) content ⌝ }
+    ensures { λ r. ⌜ ((home : ℕ → ℕ) → r ≡ deleteStep length label home (Activity.Reading entry cell) content) ⌝ }
 {
     if entry / PRICES < content / PRICES {
         return reads_on(length, entry, cell, content);
@@ -66,9 +67,9 @@ fn delete_reading(length: u32, entry: u64, cell: u32, content: u64) -> Outcome
     goes(Activity::WalkingBack { entry, cell }, content)
 }
 
-fn delete_walking_back(length: u32, entry: u64, cell: u32, content: u64) -> Outcome
+fn delete_walking_back(hash: Hash, length: u32, entry: u64, cell: u32, content: u64) -> Outcome
     requires { ⌜ cell < length ⌝ }
-    ensures { λ r. ⌜ r ≡ deleteStep length label (modulo length) (Activity.WalkingBack entry cell) content ⌝ }
+    ensures { λ r. ⌜ r ≡ deleteStep length label (spread hash length) (Activity.WalkingBack entry cell) content ⌝ }
 {
     if content / PRICES == entry / PRICES {
         return goes(
@@ -80,7 +81,7 @@ fn delete_walking_back(length: u32, entry: u64, cell: u32, content: u64) -> Outc
             content,
         );
     }
-    if cell == home(length, entry) {
+    if cell == home(hash, length, entry) {
         return ends(Answer::Finished, content);
     }
     goes(
@@ -92,11 +93,18 @@ fn delete_walking_back(length: u32, entry: u64, cell: u32, content: u64) -> Outc
     )
 }
 
-fn delete_seeking_forward(length: u32, entry: u64, cell: u32, at: u32, content: u64) -> Outcome
+fn delete_seeking_forward(
+    hash: Hash,
+    length: u32,
+    entry: u64,
+    cell: u32,
+    at: u32,
+    content: u64,
+) -> Outcome
     requires { ⌜ (cell < length) × (at < length) ⌝ }
-    ensures { λ r. ⌜ r ≡ deleteStep length label (modulo length) (Activity.SeekingForward entry cell at) content ⌝ }
+    ensures { λ r. ⌜ r ≡ deleteStep length label (spread hash length) (Activity.SeekingForward entry cell at) content ⌝ }
 {
-    if fits(length, content, at, cell) {
+    if fits(hash, length, content, at, cell) {
         return goes(
             narrow(length, entry, cell, at, content, geometry::prev(length, at)),
             content,
@@ -113,6 +121,7 @@ fn delete_seeking_forward(length: u32, entry: u64, cell: u32, at: u32, content: 
 }
 
 fn delete_seeking_back(
+    hash: Hash,
     length: u32,
     entry: u64,
     cell: u32,
@@ -122,9 +131,9 @@ fn delete_seeking_back(
     content: u64,
 ) -> Outcome
     requires { ⌜ (cell < length) × (at < length) ⌝ }
-    ensures { λ r. ⌜ r ≡ deleteStep length label (modulo length) (Activity.SeekingBack at entry cell from taken) content ⌝ }
+    ensures { λ r. ⌜ r ≡ deleteStep length label (spread hash length) (Activity.SeekingBack at entry cell from taken) content ⌝ }
 {
-    if fits(length, content, at, cell) {
+    if fits(hash, length, content, at, cell) {
         return goes(
             narrow(length, entry, cell, at, content, geometry::prev(length, at)),
             content,
@@ -144,7 +153,7 @@ fn delete_replacing(
     taken: u64,
     content: u64,
 ) -> Outcome
-    ensures { λ r. ⌜ r ≡ deleteStep length label (modulo length) (Activity.Replacing entry cell from taken) content ⌝ }
+    ensures { λ r. ⌜ ((home : ℕ → ℕ) → r ≡ deleteStep length label home (Activity.Replacing entry cell from taken) content) ⌝ }
 {
     if content != entry {
         return goes(Activity::WalkingBack { entry, cell }, content);
@@ -161,15 +170,22 @@ fn delete_replacing(
     )
 }
 
-pub fn delete_step(length: u32, activity: Activity, content: u64) -> Outcome
+pub fn delete_step(hash: Hash, length: u32, activity: Activity, content: u64) -> Outcome
     requires { ⌜ Below length (cellsOf activity) ⌝ }
-    ensures { λ r. ⌜ r ≡ deleteStep length label (modulo length) activity content ⌝ }
+    ensures { λ r. ⌜ r ≡ deleteStep length label (spread hash length) activity content ⌝ }
 {
     match activity {
         Activity::Idle => unmoved(activity, content),
         Activity::Reading { entry, cell } => delete_reading(length, entry, cell, content),
-        Activity::WalkingBack { entry, cell } => delete_walking_back(length, entry, cell, content),
+        Activity::WalkingBack { entry, cell } => delete_walking_back(
+            hash,
+            length,
+            entry,
+            cell,
+            content,
+        ),
         Activity::SeekingForward { entry, cell, at } => delete_seeking_forward(
+            hash,
             length,
             entry,
             cell,
@@ -182,7 +198,7 @@ pub fn delete_step(length: u32, activity: Activity, content: u64) -> Outcome
             cell,
             from,
             content: taken,
-        } => delete_seeking_back(length, entry, cell, from, taken, at, content),
+        } => delete_seeking_back(hash, length, entry, cell, from, taken, at, content),
         Activity::Replacing {
             entry,
             cell,

@@ -35,7 +35,7 @@ fn row_of(kind: u32, items: usize, command: Command) -> Row
 {
     match command {
         Command::Cells => row_with(1, Handling::Performed, Handling::Bad, Single::Neither),
-        Command::Open => row_with(2, Handling::Performed, Handling::Bad, Single::Neither),
+        Command::Open => row_with(4, Handling::Performed, Handling::Bad, Single::Neither),
         Command::Item => row_with(3, item_handling(items), Handling::Bad, Single::Neither),
         Command::Order => row_with(
             order_numbers(kind),

@@ -8,6 +8,7 @@ use Rattle.ring.specs.Ring.{wrap, probe, dist, prev}
 use Rattle.ring.specs.Counting.{count}
 use Rattle.layout.specs.Layout.{In, into, descending}
 use Rattle.ring.specs.Each.{all, some, first}
+use Rattle.homes.specs.Homes.{plain}
 use Rattle.prices.specs.Contents.{label}
 use Rattle.prices.specs.Priced.{labels}
 use Rattle.flaws.specs.Flaws.{meetsEmpty, meetsKey}
@@ -36,11 +37,11 @@ ordered-tested = tt
 ordered-is : overfull .ordered ≡ ones (4 ∷ 5 ∷ 3 ∷ [])
 ordered-is = same-table (overfull .ordered) (ones (4 ∷ 5 ∷ 3 ∷ [])) ordered-tested
 
-opens : openReply gateway 1 1 (0 ∷ 0 ∷ []) (oneLine 3 1 0) ≡ Accepted
+opens : openReply gateway 1 1 plain (0 ∷ 0 ∷ []) (oneLine 3 1 0) ≡ Accepted
 unfolding meetsEmpty meetsKey first all some dist probe prev wrap count into descending lineFault linesFault
 opens = refl
 
-opens-delete : openReply gateway 2 1 (ones (0 ∷ 7 ∷ [])) [] ≡ Accepted
+opens-delete : openReply gateway 2 1 plain (ones (0 ∷ 7 ∷ [])) [] ≡ Accepted
 unfolding meetsEmpty meetsKey first all some dist probe prev wrap count
 opens-delete = refl
 
@@ -59,12 +60,12 @@ carried-is = tt
 
 pub altered : Altered
 altered =
-    let a = any-lists gateway gateway-proper 1 1 (0 ∷ 0 ∷ []) (oneLine 3 1 0) opens threeKeys in
+    let a = any-lists gateway gateway-proper 1 1 plain (0 ∷ 0 ∷ []) (oneLine 3 1 0) opens threeKeys in
     record {
       table = same-table (overfull .table) (ones (4 ∷ 5 ∷ [])) table-is;
       carried = same-activity (doing (overfull .phase) 0) (Reading (one 3) 1) carried-is;
       ordered = ordered-is;
       kept = a .union refl 3 (λ z. omega arith) .1 (inr three-ordered);
       paths = a .ordering refl;
-      unread = any-lists gateway gateway-proper 2 1 (ones (0 ∷ 7 ∷ [])) [] opens-delete takenOut .unread (λ z. omega arith);
+      unread = any-lists gateway gateway-proper 2 1 plain (ones (0 ∷ 7 ∷ [])) [] opens-delete takenOut .unread (λ z. omega arith);
     }

@@ -9,11 +9,11 @@ use native.Mathlib.Omega.{arith}
 use lib.ListN.{getD}
 use Rattle.ring.specs.Counting.{count}
 use Rattle.ring.specs.Ring.{wrap, probe, dist}
-use Rattle.layout.specs.Home.{modulo}
 use Rattle.layout.specs.Layout.{In, into, descending, size, listed}
 use Rattle.ring.specs.Each.{all, some, first}
 use Rattle.layout.specs.Sound.{Holds}
 use Rattle.layout.proofs.Sets.{held-in, in-holds}
+use Rattle.homes.specs.Homes.{plain, mixed, spread}
 use Rattle.prices.specs.Contents.{label, content, SoundTable}
 use Rattle.prices.specs.Priced.{labels, lesser, least, Least, SameLeast, PricedSound}
 use Rattle.prices.proofs.Contents.{contents}
@@ -53,105 +53,110 @@ use Rattle.examples.specs.Orders.{oneLine}
 use Rattle.examples.specs.Lengths.{seven, oneLooks, twoLook, oneItems, onePuts, twoItems, twoPut, onePriceItems, onePrice, twoPriceItems, twoPrices}
 use Rattle.examples.specs.Lengths.{oneInserts, twoInsert, third, OtherLengths}
 use Rattle.examples.specs.Lengths.{emptied, alsoEmptied, holding, alsoHolding, replacing, looking}
-use Rattle.examples.proofs.Sound.{sound-says}
+use Rattle.examples.proofs.Sound.{plain-odd, sound-says}
 use Rattle.examples.proofs.Members.{apart, allIn, all-in, leastIn, same-prices, is-least, ownLeast, own-least, same-keys, same-orders}
 
 -- ---- openings
-seven-opens : (openReply gateway 3 1 seven [] ≡ Accepted)
-    × (openReply gateway 3 2 seven [] ≡ Accepted)
-    × (openReply gateway 1 1 seven (oneLine 7 1 0) ≡ Accepted)
+seven-opens : (openReply gateway 3 1 plain seven [] ≡ Accepted)
+    × (openReply gateway 3 2 plain seven [] ≡ Accepted)
+    × (openReply gateway 1 1 plain seven (oneLine 7 1 0) ≡ Accepted)
 unfolding lineFault linesFault descending into meetsEmpty meetsKey first all some dist probe wrap
 seven-opens = (refl, refl, refl)
 
-three-opens : (openReply gateway 1 1 (emptyCells 3) oneItems ≡ Accepted) × (openReply gateway 1 2 (emptyCells 3) twoItems ≡ Accepted)
+three-opens : (openReply gateway 1 1 plain (emptyCells 3) oneItems ≡ Accepted) × (openReply gateway 1 2 plain (emptyCells 3) twoItems ≡ Accepted)
 unfolding lineFault linesFault descending into meetsEmpty meetsKey first all some dist probe wrap
 three-opens = (refl, refl)
 
-three-open-prices : (openReply gateway 1 1 (emptyCells 3) onePriceItems ≡ Accepted) × (openReply gateway 1 2 (emptyCells 3) twoPriceItems ≡ Accepted)
+three-open-prices : (openReply gateway 1 1 plain (emptyCells 3) onePriceItems ≡ Accepted)
+    × (openReply gateway 1 2 plain (emptyCells 3) twoPriceItems ≡ Accepted)
 unfolding lineFault linesFault descending into meetsEmpty meetsKey first all some dist probe wrap
 three-open-prices = (refl, refl)
 
 -- ---- lists of calls are closed, and order the same keys
-looks-closed : (after gateway 3 1 seven [] oneLooks .closed ≡ true) × (after gateway 3 2 seven [] twoLook .closed ≡ true)
+looks-closed : (after gateway 3 1 plain seven [] oneLooks .closed ≡ true) × (after gateway 3 2 plain seven [] twoLook .closed ≡ true)
 unfolding turnsOf rounds run call isWellFormed meetsEmpty meetsKey first all some dist probe wrap rule findStep
 looks-closed = (refl, refl)
 
-looks-keys : SameOrders 3 label (after gateway 3 1 seven [] oneLooks .ordered) (after gateway 3 2 seven [] twoLook .ordered)
+looks-keys : SameOrders 3 label (after gateway 3 1 plain seven [] oneLooks .ordered) (after gateway 3 2 plain seven [] twoLook .ordered)
 unfolding allIn listed turnsOf rounds run call isWellFormed meetsEmpty meetsKey first all some dist probe wrap rule findStep
-looks-keys = same-keys 3 (apart 3 1 tt) (after gateway 3 1 seven [] oneLooks .ordered) (after gateway 3 2 seven [] twoLook .ordered) tt tt
+looks-keys = same-keys 3 (apart 3 1 tt) (after gateway 3 1 plain seven [] oneLooks .ordered) (after gateway 3 2 plain seven [] twoLook .ordered) tt tt
 
-puts-closed : (after gateway 1 1 (emptyCells 3) oneItems onePuts .closed ≡ true) × (after gateway 1 2 (emptyCells 3) twoItems twoPut .closed ≡ true)
+puts-closed : (after gateway 1 1 plain (emptyCells 3) oneItems onePuts .closed ≡ true)
+    × (after gateway 1 2 plain (emptyCells 3) twoItems twoPut .closed ≡ true)
 unfolding turnsOf rounds run call isWellFormed
     lineFault linesFault descending into meetsEmpty meetsKey first all some dist probe wrap rule settled absorbed insertStep
 puts-closed = (refl, refl)
 
-puts-keys : SameOrders 1 label (after gateway 1 1 (emptyCells 3) oneItems onePuts .ordered) (after gateway 1 2 (emptyCells 3) twoItems twoPut .ordered)
+puts-keys : SameOrders 1 label (after gateway 1 1 plain (emptyCells 3) oneItems onePuts .ordered)
+    (after gateway 1 2 plain (emptyCells 3) twoItems twoPut .ordered)
 unfolding leastIn listed lesser least turnsOf rounds run call isWellFormed
     lineFault linesFault descending into meetsEmpty meetsKey first all some dist probe wrap rule settled absorbed insertStep
-puts-keys = same-orders 1 (after gateway 1 1 (emptyCells 3) oneItems onePuts .ordered) (after gateway 1 2 (emptyCells 3) twoItems twoPut .ordered) tt tt
+puts-keys =
+    same-orders 1 (after gateway 1 1 plain (emptyCells 3) oneItems onePuts .ordered) (after gateway 1 2 plain (emptyCells 3) twoItems twoPut .ordered) tt tt
 
-prices-closed : (after gateway 1 1 (emptyCells 3) onePriceItems onePrice .closed ≡ true)
-    × (after gateway 1 2 (emptyCells 3) twoPriceItems twoPrices .closed ≡ true)
+prices-closed : (after gateway 1 1 plain (emptyCells 3) onePriceItems onePrice .closed ≡ true)
+    × (after gateway 1 2 plain (emptyCells 3) twoPriceItems twoPrices .closed ≡ true)
 unfolding turnsOf rounds run call isWellFormed
     lineFault linesFault descending into meetsEmpty meetsKey first all some dist probe wrap rule settled absorbed insertStep
 prices-closed = (refl, refl)
 
-prices-keys : SameOrders 1 label (after gateway 1 1 (emptyCells 3) onePriceItems onePrice .ordered)
-    (after gateway 1 2 (emptyCells 3) twoPriceItems twoPrices .ordered)
+prices-keys : SameOrders 1 label (after gateway 1 1 plain (emptyCells 3) onePriceItems onePrice .ordered)
+    (after gateway 1 2 plain (emptyCells 3) twoPriceItems twoPrices .ordered)
 unfolding leastIn listed lesser least turnsOf rounds run call isWellFormed
     lineFault linesFault descending into meetsEmpty meetsKey first all some dist probe wrap rule settled absorbed insertStep
 prices-keys =
-    same-orders 1 (after gateway 1 1 (emptyCells 3) onePriceItems onePrice .ordered)
-    (after gateway 1 2 (emptyCells 3) twoPriceItems twoPrices .ordered) tt tt
+    same-orders 1 (after gateway 1 1 plain (emptyCells 3) onePriceItems onePrice .ordered)
+    (after gateway 1 2 plain (emptyCells 3) twoPriceItems twoPrices .ordered) tt tt
 
-none-ordered : after gateway 1 1 seven (oneLine 7 1 0) (turn 0 ∷ line 1 ∷ turn 0 ∷ []) .ordered ≡ []
+none-ordered : after gateway 1 1 plain seven (oneLine 7 1 0) (turn 0 ∷ line 1 ∷ turn 0 ∷ []) .ordered ≡ []
 unfolding run call isWellFormed lineFault linesFault descending into meetsEmpty meetsKey first all some dist probe wrap
 none-ordered = refl
 
 -- ---- events
-inserts-idle : AllIdle (events.after 1 4 1 label (modulo 4) (emptyCells 4) oneInserts) × AllIdle (events.after 1 4 2 label (modulo 4) (emptyCells 4) twoInsert)
+inserts-idle : AllIdle (events.after 1 4 1 label (spread plain 4) (emptyCells 4) oneInserts)
+    × AllIdle (events.after 1 4 2 label (spread plain 4) (emptyCells 4) twoInsert)
 unfolding noneBusy steps events.run event accepts ordered stepped rule settled absorbed insertStep wrap count
 inserts-idle = (
-  all-idle (events.after 1 4 1 label (modulo 4) (emptyCells 4) oneInserts .workers) tt,
-  all-idle (events.after 1 4 2 label (modulo 4) (emptyCells 4) twoInsert .workers) tt,
+  all-idle (events.after 1 4 1 label (spread plain 4) (emptyCells 4) oneInserts .workers) tt,
+  all-idle (events.after 1 4 2 label (spread plain 4) (emptyCells 4) twoInsert .workers) tt,
 )
 
-inserts-keys : SameOrders 1 label (events.after 1 4 1 label (modulo 4) (emptyCells 4) oneInserts .ordered)
-    (events.after 1 4 2 label (modulo 4) (emptyCells 4) twoInsert .ordered)
+inserts-keys : SameOrders 1 label (events.after 1 4 1 label (spread plain 4) (emptyCells 4) oneInserts .ordered)
+    (events.after 1 4 2 label (spread plain 4) (emptyCells 4) twoInsert .ordered)
 unfolding leastIn listed lesser least steps events.run event accepts ordered stepped rule settled absorbed insertStep wrap count
 inserts-keys =
-    same-orders 1 (events.after 1 4 1 label (modulo 4) (emptyCells 4) oneInserts .ordered)
-    (events.after 1 4 2 label (modulo 4) (emptyCells 4) twoInsert .ordered) tt tt
+    same-orders 1 (events.after 1 4 1 label (spread plain 4) (emptyCells 4) oneInserts .ordered)
+    (events.after 1 4 2 label (spread plain 4) (emptyCells 4) twoInsert .ordered) tt tt
 
 -- what is ordered is of two labels, which are fewer than four cells
-inserts-listed : (v : ℕ) → In v (events.after 1 4 1 label (modulo 4) (emptyCells 4) oneInserts .ordered) → In (label v) (1 ∷ 5 ∷ [])
+inserts-listed : (v : ℕ) → In v (events.after 1 4 1 label (spread plain 4) (emptyCells 4) oneInserts .ordered) → In (label v) (1 ∷ 5 ∷ [])
 unfolding allIn listed steps events.run event accepts ordered stepped rule settled absorbed insertStep wrap count
 inserts-listed v i =
-    let xs = events.after 1 4 1 label (modulo 4) (emptyCells 4) oneInserts .ordered in
+    let xs = events.after 1 4 1 label (spread plain 4) (emptyCells 4) oneInserts .ordered in
     all-in (labels label xs) (1 ∷ 5 ∷ []) tt (label v) (in-labels label xs v i)
 
 two-fewer : size (labels label (emptyCells 4) ++ 1 ∷ 5 ∷ []) < 4
 unfolding descending into
 two-fewer = omega arith
 
-inserts-roomy : Roomy 4 label (emptyCells 4) (events.after 1 4 1 label (modulo 4) (emptyCells 4) oneInserts)
+inserts-roomy : Roomy 4 label (emptyCells 4) (events.after 1 4 1 label (spread plain 4) (emptyCells 4) oneInserts)
 inserts-roomy =
-    room-by 4 label (emptyCells 4) (1 ∷ 5 ∷ []) (events.after 1 4 1 label (modulo 4) (emptyCells 4) oneInserts) two-fewer inserts-listed
+    room-by 4 label (emptyCells 4) (1 ∷ 5 ∷ []) (events.after 1 4 1 label (spread plain 4) (emptyCells 4) oneInserts) two-fewer inserts-listed
 
 -- ---- tables
-seven-sound : SoundTable 2 (modulo 2) seven
+seven-sound : SoundTable 2 (spread plain 2) seven
 unfolding meetsEmpty meetsKey first all some dist probe wrap
-seven-sound = sound-says seven .0 tt
+seven-sound = sound-says plain seven .0 tt
 
-seven-priced : PricedSound 2 label (modulo 2) seven
-seven-priced = contents .priced 2 (modulo 2) seven seven-sound
+seven-priced : PricedSound 2 label (spread plain 2) seven
+seven-priced = contents .priced 2 (spread plain 2) seven seven-sound
 
-four-empty-sound : PricedSound 4 label (modulo 4) (emptyCells 4)
+four-empty-sound : PricedSound 4 label (spread plain 4) (emptyCells 4)
 unfolding meetsEmpty meetsKey first all some dist probe wrap
-four-empty-sound = contents .priced 4 (modulo 4) (emptyCells 4) (sound-says (emptyCells 4) .0 tt)
+four-empty-sound = contents .priced 4 (spread plain 4) (emptyCells 4) (sound-says plain (emptyCells 4) .0 tt)
 
-rules : (n : ℕ) → Rules (suc n) label (modulo (suc n))
-rules n = record { blank = refl; inside = λ x. mod-lt x (zero-lt-suc n) }
+rules : (n : ℕ) → Rules (suc n) label (spread plain (suc n))
+rules n = record { blank = refl; inside = λ x. mod-lt (mixed plain x) (zero-lt-suc n) }
 
 seven-same : SameLeast label seven (content 7 2 ∷ one 7 ∷ [])
 unfolding leastIn listed lesser least
@@ -164,8 +169,8 @@ seven-own y nz h = let i = held-in 2 seven y refl h in is-least seven y nz i (ow
 seven-keys : (y : ℕ) → label y ≢ 0 → Holds 2 seven y ↔ Least label (content 7 2 ∷ one 7 ∷ []) y
 seven-keys y nz = (λ h. seven-same y nz .0 (seven-own y nz h), λ l. in-holds 2 seven y refl (seven-same y nz .1 l .member))
 
-seven-kinds : Intact seven × (Gapped (modulo 2) seven → ⊥) × (Disordered (modulo 2) seven → ⊥)
-seven-kinds = sounds .kinds gateway gateway-proper seven .0 (sounds .words gateway seven .0 seven-sound)
+seven-kinds : Intact seven × (Gapped (spread plain 2) seven → ⊥) × (Disordered (spread plain 2) seven → ⊥)
+seven-kinds = sounds .kinds gateway gateway-proper plain seven .0 (sounds .words gateway plain seven .0 seven-sound)
 
 two-cells : Size gateway 2
 two-cells = (omega arith, omega arith)
@@ -178,18 +183,18 @@ none-before : keysBefore seven 1 ≡ 0
 unfolding count
 none-before = refl
 
-list-accepted : countNumber (listCall gateway seven sixPlaces) ≡ 0
+list-accepted : countNumber (listCall gateway plain seven sixPlaces) ≡ 0
 list-accepted =
-    let (_, (_, (_, (_, (_, none))))) = tables gateway gateway-proper seven sixPlaces .list in
+    let (_, (_, (_, (_, (_, (_, none)))))) = tables gateway gateway-proper plain seven sixPlaces .list in
     let (whole, gapless, ordered) = seven-kinds in
     let l : size (labels label seven) ≤ 6 = omega (arith, seven-size) in
-    none .1 (((((tt, two-cells), whole), gapless), ordered), l)
+    none .1 ((((((tt, two-cells), plain-odd), whole), gapless), ordered), l)
 
-check-accepted : replyNumber (checkCall gateway seven) ≡ 0
+check-accepted : replyNumber (checkCall gateway plain seven) ≡ 0
 check-accepted =
-    let (_, (_, (_, (_, none)))) = tables gateway gateway-proper seven [] .check in
+    let (_, (_, (_, (_, (_, none))))) = tables gateway gateway-proper plain seven [] .check in
     let (whole, gapless, ordered) = seven-kinds in
-    none .1 ((((tt, two-cells), whole), gapless), ordered)
+    none .1 (((((tt, two-cells), plain-odd), whole), gapless), ordered)
 
 -- ---- turns: the cell touched is alike
 insert-cell : (c : ℕ) → _≡_ {A = Place} (At 1) (At c) → getD emptied c 0 ≡ getD alsoEmptied c 0
@@ -209,28 +214,28 @@ find-pass = (refl, refl)
 -- ---- all of them
 pub other-lengths : OtherLengths
 other-lengths =
-    let lists = tables gateway gateway-proper seven sixPlaces in
+    let lists = tables gateway gateway-proper plain seven sixPlaces in
     record {
       look-up =
-          one-table gateway gateway gateway-proper gateway-proper 3 1 2 seven [] [] (λ x. refl) (seven-opens .0) (seven-opens .1) oneLooks twoLook looks-keys
-          (looks-closed .0) (looks-closed .1);
+          one-table gateway gateway gateway-proper gateway-proper 3 1 2 plain plain seven [] [] (λ x. refl) (seven-opens .0) (seven-opens .1) oneLooks
+          twoLook looks-keys (looks-closed .0) (looks-closed .1);
       put-in =
-          one-table gateway gateway gateway-proper gateway-proper 1 1 2 (emptyCells 3) oneItems twoItems (λ x. refl) (three-opens .0) (three-opens .1)
-          onePuts twoPut puts-keys (puts-closed .0) (puts-closed .1);
+          one-table gateway gateway gateway-proper gateway-proper 1 1 2 plain plain (emptyCells 3) oneItems twoItems (λ x. refl) (three-opens .0)
+          (three-opens .1) onePuts twoPut puts-keys (puts-closed .0) (puts-closed .1);
       put-in-prices =
-          one-table gateway gateway gateway-proper gateway-proper 1 1 2 (emptyCells 3) onePriceItems twoPriceItems (λ x. refl) (three-open-prices .0)
-          (three-open-prices .1) onePrice twoPrices prices-keys (prices-closed .0) (prices-closed .1);
+          one-table gateway gateway gateway-proper gateway-proper 1 1 2 plain plain (emptyCells 3) onePriceItems twoPriceItems (λ x. refl)
+          (three-open-prices .0) (three-open-prices .1) onePrice twoPrices prices-keys (prices-closed .0) (prices-closed .1);
       one-end =
-          one-end 1 4 1 2 (inl refl) label (modulo 4) (rules 3) (emptyCells 4) four-empty-sound oneInserts twoInsert (λ _. inserts-roomy) inserts-keys
+          one-end 1 4 1 2 (inl refl) label (spread plain 4) (rules 3) (emptyCells 4) four-empty-sound oneInserts twoInsert (λ _. inserts-roomy) inserts-keys
           (inserts-idle .0) (inserts-idle .1);
       room = inserts-roomy;
       insert-turns =
-          two-turns gateway replacing (third replacing) emptied alsoEmptied 0 2 (insert-pass .0) (insert-pass .1) refl refl refl insert-cell .replies;
-      find-turns = two-turns gateway looking (third looking) holding alsoHolding 0 2 (find-pass .0) (find-pass .1) refl refl refl find-cell .replies;
-      one-layout = layouts 2 label (modulo 2) (rules 1 .blank) (rules 1 .inside) .unique (content 7 2 ∷ one 7 ∷ []) seven seven-priced seven-keys;
+          two-turns gateway replacing (third replacing) emptied alsoEmptied 0 2 (insert-pass .0) (insert-pass .1) refl refl refl refl insert-cell .replies;
+      find-turns = two-turns gateway looking (third looking) holding alsoHolding 0 2 (find-pass .0) (find-pass .1) refl refl refl refl find-cell .replies;
+      one-layout = layouts 2 label (spread plain 2) (rules 1 .blank) (rules 1 .inside) .unique (content 7 2 ∷ one 7 ∷ []) seven seven-priced seven-keys;
       passes = check-accepted;
-      count = lists .count-true (two-cells, sounds .words gateway seven .0 seven-sound) ∙ seven-size;
-      listed = ap (λ (i : ℕ). getD (listAfter gateway seven sixPlaces) i 0) (sym none-before) ∙ lists .listed list-accepted 1 (apart 7 0 tt);
-      front = ap (λ (i : ℕ). getD (listFront gateway seven sixPlaces) i 0) (sym none-before) ∙ lists .front list-accepted 1 (apart 7 0 tt);
-      kept = keeps-table gateway gateway-proper 1 1 seven (oneLine 7 1 0) (seven-opens .2) .no-orders (turn 0 ∷ line 1 ∷ turn 0 ∷ []) none-ordered;
+      count = lists .count-true (two-cells, plain-odd, sounds .words gateway plain seven .0 seven-sound) ∙ seven-size;
+      listed = ap (λ (i : ℕ). getD (listAfter gateway plain seven sixPlaces) i 0) (sym none-before) ∙ lists .listed list-accepted 1 (apart 7 0 tt);
+      front = ap (λ (i : ℕ). getD (listFront gateway plain seven sixPlaces) i 0) (sym none-before) ∙ lists .front list-accepted 1 (apart 7 0 tt);
+      kept = keeps-table gateway gateway-proper 1 1 plain seven (oneLine 7 1 0) (seven-opens .2) .no-orders (turn 0 ∷ line 1 ∷ turn 0 ∷ []) none-ordered;
     }

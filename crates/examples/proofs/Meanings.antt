@@ -89,4 +89,10 @@ meanings = record {
   empty-decides = empty-decides;
   lowest-gap = lowest-gap;
   lowest-disorder = lowest-disorder;
+  even = (2147483647, refl);
+  even-none = (0, refl);
+  not-even = λ (h, e). omega arith;
+  odd = (2147483647, refl);
+  odd-one = (0, refl);
+  not-odd = λ (h, e). omega arith;
 }

@@ -1,5 +1,5 @@
 -- The corollaries on single calls, each by its promise. Premises are computed, conclusions are not.
-use mathlib.Core.Path.{_≡_, refl, sym, ap, _∙_}
+use mathlib.Core.Path.{_≡_, refl, sym, ap, ap₂, _∙_}
 use mathlib.Core.Logic.{_≢_, _⊎_, inl, inr, ⊎-elim}
 use mathlib.Core.Bool.{false}
 use mathlib.Core.List.{List, [], _∷_, _++_}
@@ -9,10 +9,11 @@ use lib.ListN.{length, getD, replicate, length-replicate}
 use borrow.Author.Tests.{eqb-true, ne-eqb, leb-true}
 use Rattle.ring.specs.Ring.{wrap, probe, dist}
 use Rattle.ring.proofs.Split.{by-eq}
-use Rattle.layout.specs.Home.{modulo}
 use Rattle.layout.specs.Layout.{In, into, descending, size}
 use Rattle.ring.specs.Each.{all, some, first}
 use Rattle.layout.proofs.Sets.{in-append, subset-size}
+use Rattle.homes.specs.Homes.{plain, spread}
+use Rattle.homes.specs.declared.Hash.{Hash}
 use Rattle.prices.specs.Contents.{label, content}
 use Rattle.prices.specs.Priced.{labels}
 use Rattle.flaws.specs.Flaws.{meetsEmpty, meetsKey}
@@ -50,22 +51,22 @@ use Rattle.examples.specs.Repairs.{gapped, disordered}
 use Rattle.examples.specs.Corollaries.{fewWorkers, manyWorkers, altered, overwritten, overpriced, justOpened, firstLine, workerBeforeBlank}
 use Rattle.examples.specs.Corollaries.{puttingIn, repricing, meeting, emptying, lookingUp}
 use Rattle.examples.specs.Corollaries.{repriceItems, madeOnOthers, CallCorollaries}
-use Rattle.examples.proofs.Sound.{sound-says}
+use Rattle.examples.proofs.Sound.{plain-odd, sound-says}
 use Rattle.examples.proofs.Lending.{worker-earliest, four-fills, seven-once}
 use Rattle.examples.proofs.Members.{apart}
 use Rattle.examples.proofs.Unsound.{disordered-intact, gapped-intact, gapped-is, disordered-is}
 
 -- ---- openings
-opened-number : replyNumber (openCall gateway 1 2 (emptyCells 5) sheetItems .reply) ≡ 0
+opened-number : replyNumber (openCall gateway 1 2 plain (emptyCells 5) sheetItems .reply) ≡ 0
 unfolding lineFault linesFault descending into meetsEmpty meetsKey first all some dist probe wrap
 opened-number = refl
 
-not-opened : replyNumber (openCall gateway 4 1 four wrongLines .reply) ≢ 0
+not-opened : replyNumber (openCall gateway 4 1 plain four wrongLines .reply) ≢ 0
 unfolding meetsEmpty meetsKey first all some dist probe wrap
 not-opened z = omega arith
 
-rests : Resting gateway 1 5 2 false justOpened
-rests = opens gateway 1 2 (emptyCells 5) sheetItems .accepted opened-number
+rests : Resting gateway 1 5 2 false plain justOpened
+rests = opens gateway 1 2 plain (emptyCells 5) sheetItems .accepted opened-number
 
 -- a line that decides gives its own number
 module _ (m : ℕ) (os : List Order) (r : ℕ) (e : linesFault m os ≡ r) where
@@ -80,24 +81,24 @@ module _ (m : ℕ) (os : List Order) (r : ℕ) (e : linesFault m os ≡ r) where
 
 -- on a table that opens, with good lines: the labels alone decide
 module _ (m : ℕ) (t : List ℕ) (os : List Order) (cells : Size gateway (length t)) (crew : Crew gateway m) (few : length os ≤ 65536)
-    (sound : Soundness gateway t) (good : linesFault m os ≡ 0) where
-  fits : (Fills t os → ⊥) → replyNumber (openCall gateway 1 m t os .reply) ≡ 0
+    (sound : Soundness gateway plain t) (good : linesFault m os ≡ 0) where
+  fits : (Fills t os → ⊥) → replyNumber (openCall gateway 1 m plain t os .reply) ≡ 0
   fits fewer =
-      let (_, (_, (_, (_, (_, (_, (_, (_, (_, (_, (_, none))))))))))) = opens gateway 1 m t os .inserts refl in
-      let (whole, gapless, ordered) = sounds .kinds gateway gateway-proper t .0 sound in
+      let (_, (_, (_, (_, (_, (_, (_, (_, (_, (_, (_, (_, none)))))))))))) = opens gateway 1 m plain t os .inserts refl in
+      let (whole, gapless, ordered) = sounds .kinds gateway gateway-proper plain t .0 sound in
       let a = not-blank m os 0 good (λ z. omega arith) in
       let b = not-priceless m os 0 good (λ z. omega arith) in
       let c = not-workless m os 0 good (λ z. omega arith) in
-      none .1 (((((((((((tt, cells), crew), (omega arith, omega arith)), few), whole), gapless), ordered), a), b), c), fewer)
+      none .1 ((((((((((((tt, cells), crew), (omega arith, omega arith)), plain-odd), few), whole), gapless), ordered), a), b), c), fewer)
 
-  overflows : Fills t os → replyNumber (openCall gateway 1 m t os .reply) ≡ 9
+  overflows : Fills t os → replyNumber (openCall gateway 1 m plain t os .reply) ≡ 9
   overflows fills =
-      let (_, (_, (_, (_, (_, (_, (_, (_, (_, (_, (nine, _))))))))))) = opens gateway 1 m t os .inserts refl in
-      let (whole, gapless, ordered) = sounds .kinds gateway gateway-proper t .0 sound in
+      let (_, (_, (_, (_, (_, (_, (_, (_, (_, (_, (_, (nine, _)))))))))))) = opens gateway 1 m plain t os .inserts refl in
+      let (whole, gapless, ordered) = sounds .kinds gateway gateway-proper plain t .0 sound in
       let a = not-blank m os 0 good (λ z. omega arith) in
       let b = not-priceless m os 0 good (λ z. omega arith) in
       let c = not-workless m os 0 good (λ z. omega arith) in
-      nine .1 (((((((((((tt, cells), crew), (omega arith, omega arith)), few), whole), gapless), ordered), a), b), c), fills)
+      nine .1 ((((((((((((tt, cells), crew), (omega arith, omega arith)), plain-odd), few), whole), gapless), ordered), a), b), c), fills)
 
 five-cells : Size gateway 5
 five-cells = (omega arith, omega arith)
@@ -105,28 +106,28 @@ five-cells = (omega arith, omega arith)
 two-workers : Crew gateway 2
 two-workers = (omega arith, omega arith)
 
-not-gapped : Gapped (modulo 5) disordered → ⊥
-not-gapped g = flaws .kinds (modulo 5) disordered .apart g disordered-is
+not-gapped : Gapped (spread plain 5) disordered → ⊥
+not-gapped g = flaws .kinds (spread plain 5) disordered .apart g disordered-is
 
 -- 2 cells with {7}, and five empty cells
-seven-sound : Soundness gateway (ones (0 ∷ 7 ∷ []))
+seven-sound : Soundness gateway plain (ones (0 ∷ 7 ∷ []))
 unfolding meetsEmpty meetsKey first all some dist probe wrap
-seven-sound = sounds .words gateway (ones (0 ∷ 7 ∷ [])) .0 (sound-says (ones (0 ∷ 7 ∷ [])) .0 tt)
+seven-sound = sounds .words gateway plain (ones (0 ∷ 7 ∷ [])) .0 (sound-says plain (ones (0 ∷ 7 ∷ [])) .0 tt)
 
-five-sound : Soundness gateway (emptyCells 5)
+five-sound : Soundness gateway plain (emptyCells 5)
 unfolding meetsEmpty meetsKey first all some dist probe wrap
-five-sound = sounds .words gateway (emptyCells 5) .0 (sound-says (emptyCells 5) .0 tt)
+five-sound = sounds .words gateway plain (emptyCells 5) .0 (sound-says plain (emptyCells 5) .0 tt)
 
 good-line : (l : ℕ) → l ≢ 0 → linesFault 1 (oneLine l 1 0) ≡ 0
 unfolding lineFault linesFault
 good-line l nz = rw (ne-eqb l 0 nz)
 
-seven-fits : replyNumber (openCall gateway 1 1 (ones (0 ∷ 7 ∷ [])) (oneLine 7 1 0) .reply) ≡ 0
+seven-fits : replyNumber (openCall gateway 1 1 plain (ones (0 ∷ 7 ∷ [])) (oneLine 7 1 0) .reply) ≡ 0
 seven-fits =
     fits 1 (ones (0 ∷ 7 ∷ [])) (oneLine 7 1 0) (omega arith, omega arith) (omega arith, omega arith) (omega arith) seven-sound (good-line 7 (apart 7 0 tt))
     (seven-once .0)
 
-four-overflows : replyNumber (openCall gateway 1 1 (ones (0 ∷ 7 ∷ [])) (oneLine 4 1 0) .reply) ≡ 9
+four-overflows : replyNumber (openCall gateway 1 1 plain (ones (0 ∷ 7 ∷ [])) (oneLine 4 1 0) .reply) ≡ 9
 four-overflows =
     overflows 1 (ones (0 ∷ 7 ∷ [])) (oneLine 4 1 0) (omega arith, omega arith) (omega arith, omega arith) (omega arith) seven-sound (good-line 4 (apart 4 0 tt))
     four-fills
@@ -136,32 +137,34 @@ worker-lacks : linesFault 2 workerBeforeBlank ≡ 6
 unfolding lineFault linesFault
 worker-lacks = refl
 
-worker-decides : replyNumber (openCall gateway 1 2 (emptyCells 5) workerBeforeBlank .reply) ≡ 6
+worker-decides : replyNumber (openCall gateway 1 2 plain (emptyCells 5) workerBeforeBlank .reply) ≡ 6
 worker-decides =
     let os = workerBeforeBlank in
-    let (_, (_, (_, (_, (_, (_, (_, (_, (_, (six, _)))))))))) = opens gateway 1 2 (emptyCells 5) os .inserts refl in
-    let (whole, gapless, ordered) = sounds .kinds gateway gateway-proper (emptyCells 5) .0 five-sound in
+    let (_, (_, (_, (_, (_, (_, (_, (_, (_, (_, (six, _))))))))))) = opens gateway 1 2 plain (emptyCells 5) os .inserts refl in
+    let (whole, gapless, ordered) = sounds .kinds gateway gateway-proper plain (emptyCells 5) .0 five-sound in
     let a = not-blank 2 os 6 worker-lacks (λ z. omega arith) in
     let b = not-priceless 2 os 6 worker-lacks (λ z. omega arith) in
-    six .1 ((((((((((tt, five-cells), two-workers), (omega arith, omega arith)), omega arith), whole), gapless), ordered), a), b), worker-earliest)
+    six .1
+    (((((((((((tt, five-cells), two-workers), (omega arith, omega arith)), plain-odd), omega arith), whole), gapless), ordered), a), b), worker-earliest)
 
 -- ---- tables that are not sound
-gap-opens : replyNumber (openCall gateway 1 2 gapped wrongLines .reply) ≡ 17
+gap-opens : replyNumber (openCall gateway 1 2 plain gapped wrongLines .reply) ≡ 17
 gap-opens =
-    let (_, (_, (_, (_, (_, (seventeen, _)))))) = opens gateway 1 2 gapped wrongLines .inserts refl in
-    seventeen .1 ((((((tt, five-cells), two-workers), (omega arith, omega arith)), omega arith), gapped-intact), gapped-is)
+    let (_, (_, (_, (_, (_, (_, (seventeen, _))))))) = opens gateway 1 2 plain gapped wrongLines .inserts refl in
+    seventeen .1 (((((((tt, five-cells), two-workers), (omega arith, omega arith)), plain-odd), omega arith), gapped-intact), gapped-is)
 
-disorder-opens : replyNumber (openCall gateway 1 2 disordered wrongLines .reply) ≡ 18
+disorder-opens : replyNumber (openCall gateway 1 2 plain disordered wrongLines .reply) ≡ 18
 disorder-opens =
-    let (_, (_, (_, (_, (_, (_, (eighteen, _))))))) = opens gateway 1 2 disordered wrongLines .inserts refl in
-    eighteen .1 (((((((tt, five-cells), two-workers), (omega arith, omega arith)), omega arith), disordered-intact), not-gapped), disordered-is)
+    let (_, (_, (_, (_, (_, (_, (_, (eighteen, _)))))))) = opens gateway 1 2 plain disordered wrongLines .inserts refl in
+    eighteen .1
+    ((((((((tt, five-cells), two-workers), (omega arith, omega arith)), plain-odd), omega arith), disordered-intact), not-gapped), disordered-is)
 
-disorder-looks : replyNumber (openCall gateway 3 2 disordered wrongLines .reply) ≡ 18
+disorder-looks : replyNumber (openCall gateway 3 2 plain disordered wrongLines .reply) ≡ 18
 disorder-looks =
-    let (_, (_, (_, (_, (_, (eighteen, _)))))) = opens gateway 3 2 disordered wrongLines .others (λ z. apart 3 1 tt z) in
-    eighteen .1 ((((((tt, five-cells), two-workers), (omega arith, omega arith)), disordered-intact), not-gapped), disordered-is)
+    let (_, (_, (_, (_, (_, (_, (eighteen, _))))))) = opens gateway 3 2 plain disordered wrongLines .others (λ z. apart 3 1 tt z) in
+    eighteen .1 (((((((tt, five-cells), two-workers), (omega arith, omega arith)), plain-odd), disordered-intact), not-gapped), disordered-is)
 
-prices-open : replyNumber (openCall gateway 1 2 atPrices repriceItems .reply) ≡ 0
+prices-open : replyNumber (openCall gateway 1 2 plain atPrices repriceItems .reply) ≡ 0
 unfolding lineFault linesFault descending into meetsEmpty meetsKey first all some dist probe wrap
 prices-open = refl
 
@@ -186,18 +189,18 @@ one-label n =
     let ys = orderKeys (replicate n (orderWith 3 1 0)) in
     subset-size (xs ++ ys) (3 ∷ []) (λ y nz i. ⊎-elim (λ j. absurd (nz (no-label 5 y j))) (λ j. inl (only-three n y j)) (in-append xs ys y .0 i))
 
-many-fit : (n : ℕ) → n ≤ 65536 → replyNumber (openCall gateway 1 2 (emptyCells 5) (replicate n (orderWith 3 1 0)) .reply) ≡ 0
+many-fit : (n : ℕ) → n ≤ 65536 → replyNumber (openCall gateway 1 2 plain (emptyCells 5) (replicate n (orderWith 3 1 0)) .reply) ≡ 0
 many-fit n l =
     let os = replicate n (orderWith 3 1 0) in
     let xs = labels label (emptyCells 5) ++ orderKeys os in
     fits 2 (emptyCells 5) os (omega arith, omega arith) (omega arith, omega arith) (rw (length-replicate n (orderWith 3 1 0)) l) five-sound (all-good n) (λ f.
     let m : 5 ≤ size xs = leb-true 5 (size xs) (fills-says (emptyCells 5) os .1 f) in omega (arith, m, one-label n))
 
-too-many : (n : ℕ) → 65536 < n → (o : Order) → replyNumber (openCall gateway 1 2 (emptyCells 5) (replicate n o) .reply) ≡ 16
+too-many : (n : ℕ) → 65536 < n → (o : Order) → replyNumber (openCall gateway 1 2 plain (emptyCells 5) (replicate n o) .reply) ≡ 16
 too-many n l o =
-    let (_, (_, (_, (sixteen, _)))) = opens gateway 1 2 (emptyCells 5) (replicate n o) .inserts refl in
+    let (_, (_, (_, (_, (sixteen, _))))) = opens gateway 1 2 plain (emptyCells 5) (replicate n o) .inserts refl in
     let long : 65536 < length (replicate n o) = rw (length-replicate n o) l in
-    sixteen .1 ((((tt, (omega arith, omega arith)), (omega arith, omega arith)), (omega arith, omega arith)), long)
+    sixteen .1 (((((tt, (omega arith, omega arith)), (omega arith, omega arith)), (omega arith, omega arith)), plain-odd), long)
 
 -- ---- orders and closes
 -- of label 3 at price 7 to worker 0, by an altered list
@@ -214,7 +217,7 @@ few-order = refl
 
 -- worker 0 of the record just opened may be given orders
 opened-formed : WellFormed gateway justOpened
-opened-formed = gateway-never-spoilt justOpened (opened 1 2 (emptyCells 5) sheetItems)
+opened-formed = gateway-never-spoilt justOpened (opened 1 2 plain (emptyCells 5) sheetItems)
 
 first-worker : 0 < justOpened .crew
 first-worker = rw (rests .crew) (omega arith)
@@ -301,7 +304,7 @@ said-price = refl
 
 made : Made gateway madeOnOthers
 made =
-    let first = madeByOrder _ (opened 1 2 (emptyCells 5) sheetItems) sheetItems 0 0 0 in
+    let first = madeByOrder _ (opened 1 2 plain (emptyCells 5) sheetItems) sheetItems 0 0 0 in
     closed _ (turned _ (madeByOrder _ (turned _ first four 0) (oneLine 8 9 1) 0 0 0) altered 1)
 
 split-turn : SplitTurn gateway fewWorkers four 1
@@ -311,17 +314,18 @@ split-order : SplitOrder gateway fewWorkers [] 0 0 9
 split-order = splits .order gateway fewWorkers few-formed refl [] 0 0 9 refl (omega arith)
 
 -- the worker alone
-one-turn : oneTurn gateway 2 5 four (worker (Replacing (one 8) 4 0 (one 4))) ≡ record { worker = worker (WalkingBack (one 4) 0); reply = Answered WentOn }
+one-turn : oneTurn gateway 2 plain 5 four (worker (Replacing (one 8) 4 0 (one 4)))
+    ≡ record { worker = worker (WalkingBack (one 4) 0); reply = Answered WentOn }
 unfolding rule deleteStep
 one-turn = refl
 
-one-table-left : oneTable gateway 2 5 four (worker (Replacing (one 8) 4 0 (one 4))) ≡ ones (4 ∷ 3 ∷ 0 ∷ 13 ∷ 4 ∷ [])
+one-table-left : oneTable gateway 2 plain 5 four (worker (Replacing (one 8) 4 0 (one 4))) ≡ ones (4 ∷ 3 ∷ 0 ∷ 13 ∷ 4 ∷ [])
 unfolding rule deleteStep
 one-table-left = refl
 
 pub call-corollaries : CallCorollaries
 call-corollaries =
-    let refused = opens gateway 4 1 four wrongLines in
+    let refused = opens gateway 4 1 plain four wrongLines in
     let ended = closes gateway justOpened .accepted close-number in
     let takes = turns gateway fewWorkers four 1 in
     let taken = turns gateway manyWorkers altered 7 in
@@ -331,8 +335,8 @@ call-corollaries =
       opened-idle = rests .rest 1;
       refused-shut = refused .refused not-opened .shut;
       refused-cells = refused .refused not-opened .cells;
-      opened-sound = opens gateway 1 2 atPrices repriceItems .sound gateway-proper prices-open;
-      not-unsound = opens gateway 1 2 (emptyCells 5) workerBeforeBlank .never-unsound gateway-proper five-sound;
+      opened-sound = opens gateway 1 2 plain atPrices repriceItems .sound gateway-proper prices-open;
+      not-unsound = opens gateway 1 2 plain (emptyCells 5) workerBeforeBlank .never-unsound gateway-proper five-sound;
       gap-refused = gap-opens;
       disorder-refused = disorder-opens;
       looks-refused = disorder-looks;
@@ -341,9 +345,11 @@ call-corollaries =
       earliest = worker-decides;
       longest = many-fit;
       too-long = too-many;
-      lines = opens gateway 1 2 (emptyCells 5) sheetItems .lines refl opened-number;
-      list-unread = opens gateway 2 2 four [] .unread (λ z. apart 2 1 tt z) wrongLines;
-      starts-priced = started .starts (rw (rests .places) (omega arith)) ∙ ap (λ (n : ℕ). Reading (content 3 7) (modulo n 3)) (rests .cells);
+      lines = opens gateway 1 2 plain (emptyCells 5) sheetItems .lines refl opened-number;
+      list-unread = opens gateway 2 2 plain four [] .unread (λ z. apart 2 1 tt z) wrongLines;
+      starts-priced =
+          started .starts (rw (rests .places) (omega arith))
+          ∙ ap₂ (λ (ab : Hash) (n : ℕ). Reading (content 3 7) (spread ab n 3)) (rests .hash) (rests .cells);
       starts = orders gateway fewWorkers [] 7 0 9 .other-accepted (λ z. apart 2 1 tt z) few-order .starts (omega arith);
       order-leaves = started .others .others 1 (λ z. omega arith) ∙ rests .rest 1;
       no-line = no-line;

@@ -1,4 +1,4 @@
--- The test of a table's soundness, for tables that are written out: it is of none of the three kinds of unsound.
+-- The test of a table's soundness by a and b, for tables that are written out: it is of none of the three kinds of unsound.
 use mathlib.Core.Path.{_≡_, refl}
 use mathlib.Core.Logic.{_↔_}
 use mathlib.Core.Bool.{Bool, true, false, not, _&&_}
@@ -9,16 +9,21 @@ use lib.Dec.{T}
 use lib.ListN.{length}
 use borrow.Author.Tests.{not-true}
 use Rattle.ring.proofs.Tests.{true-says, not-both}
-use Rattle.layout.specs.Home.{modulo}
 use Rattle.ring.proofs.Each.{and-of, and-left, and-right}
+use Rattle.homes.specs.Homes.{plain, mixed, spread}
+use Rattle.homes.specs.Promise.{Odd}
+use Rattle.homes.specs.declared.Hash.{Hash}
 use Rattle.prices.specs.Contents.{SoundTable}
 use Rattle.flaws.specs.Flaws.{isIntact, meetsEmpty, meetsKey}
 use Rattle.flaws.specs.Promise.{Flaws}
 use Rattle.flaws.proofs.Theorem.{theorem as flaws}
 
-module _ (t : List ℕ) where
+pub plain-odd : Odd (plain .a)
+plain-odd = (0, refl)
+
+module _ (ab : Hash) (t : List ℕ) where
   abbrev home : ℕ → ℕ
-  home = modulo (length t)
+  home = spread ab (length t)
 
   abbrev kinds : Flaws home t
   kinds = flaws .kinds home t
@@ -41,7 +46,7 @@ module _ (t : List ℕ) where
       let w = isIntact t in
       let g = not (meetsEmpty home t) in
       let d = not (meetsKey home t) in
-      let (to, from) = flaws .sound home t (λ l x. mod-lt x l) in (
+      let (to, from) = flaws .sound home t (λ l x. mod-lt (mixed ab x) l) in (
         λ h.
             let r = and-right w (g && d) h in
             from (

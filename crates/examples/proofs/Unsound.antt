@@ -6,8 +6,8 @@ use Prim.Native.Nat.{ℕ, zero, suc, _≤_, _<_}
 use native.Mathlib.Omega.{arith}
 use lib.ListN.{getD}
 use Rattle.ring.specs.Ring.{wrap, probe, dist}
-use Rattle.layout.specs.Home.{modulo}
 use Rattle.layout.specs.Sound.{look}
+use Rattle.homes.specs.Homes.{plain, spread}
 use Rattle.prices.specs.Contents.{label, price, content}
 use Rattle.flaws.specs.Promise.{Intact, Damaged, Breaks, Gapped, Disordered}
 use Rattle.rule.specs.Schedules.{ones}
@@ -55,20 +55,20 @@ not-full w = full-filled (w .empty .cell) (w .empty .inside) (w .empty .is)
 
 -- ---- labels that break the order, in five cells
 abbrev Broken : List ℕ → ℕ → ℕ → Type 0
-Broken t j s = Breaks 5 (modulo 5) t j s
+Broken t j s = Breaks 5 (spread plain 5) t j s
 
 -- what the label of cell j meets s steps on from its home
 abbrev meeting : List ℕ → ℕ → ℕ → ℕ
-meeting t j s = look 5 (modulo 5) t (getD t j 0) s
+meeting t j s = look 5 (spread plain 5) t (getD t j 0) s
 
 module _ (t : List ℕ) (j : ℕ) (inside : j < 5) (key : getD t j 0 ≢ 0) where
-  at-once : 0 < dist 5 (modulo 5 (getD t j 0)) j → meeting t j 0 ≤ getD t j 0 → Broken t j 0
+  at-once : 0 < dist 5 (spread plain 5 (getD t j 0)) j → meeting t j 0 ≤ getD t j 0 → Broken t j 0
   at-once l le = record { inside = inside; key = key; before = l; greater = λ k z. absurd (none k z); not-greater = le }
     where
       none : (k : ℕ) → k < 0 → ⊥
       none k z = omega arith
 
-  behind-one : 1 < dist 5 (modulo 5 (getD t j 0)) j → getD t j 0 < meeting t j 0 → meeting t j 1 ≤ getD t j 0 → Broken t j 1
+  behind-one : 1 < dist 5 (spread plain 5 (getD t j 0)) j → getD t j 0 < meeting t j 0 → meeting t j 1 ≤ getD t j 0 → Broken t j 1
   behind-one l gt le = record { inside = inside; key = key; before = l; greater = one; not-greater = le }
     where
       one : (k : ℕ) → k < 1 → getD t j 0 < meeting t j k
@@ -80,7 +80,7 @@ six-breaks : Broken (6 ∷ 0 ∷ 0 ∷ 0 ∷ 0 ∷ []) 0 0
 unfolding dist probe wrap
 six-breaks = at-once (6 ∷ 0 ∷ 0 ∷ 0 ∷ 0 ∷ []) 0 (omega arith) (apart 6 0 tt) (omega arith) (omega arith)
 
-pub gapped-is : Gapped (modulo 5) gapped
+pub gapped-is : Gapped (spread plain 5) gapped
 unfolding probe wrap
 gapped-is = record { cell = 0; steps = 0; breaks = six-breaks; lowest = λ i s l b. omega (arith, l); fact = refl }
 
@@ -97,7 +97,7 @@ eight-home (suc (suc zero)) s l b = b .key refl
 eight-home (suc (suc (suc zero))) s l b = let z : s < 0 = b .before in omega arith
 eight-home (suc (suc (suc (suc i)))) s l b = omega (arith, l)
 
-pub disordered-is : Disordered (modulo 5) disordered
+pub disordered-is : Disordered (spread plain 5) disordered
 unfolding probe wrap
 disordered-is = record { cell = 4; steps = 0; breaks = thirteen-breaks; lowest = eight-home; fact = apart (content 8 1) 0 tt }
 
@@ -115,7 +115,7 @@ pub not-nearest : Broken (8 ∷ 0 ∷ 0 ∷ 0 ∷ 4 ∷ []) 0 1 → ⊥
 unfolding probe wrap
 not-nearest b = let z : 8 < 0 = b .greater 0 (omega arith) in omega arith
 
-pub empty-decides : Gapped (modulo 5) (ones (8 ∷ 0 ∷ 0 ∷ 0 ∷ 4 ∷ []))
+pub empty-decides : Gapped (spread plain 5) (ones (8 ∷ 0 ∷ 0 ∷ 0 ∷ 4 ∷ []))
 unfolding probe wrap
 empty-decides = record { cell = 0; steps = 0; breaks = empty-first; lowest = λ i s l b. omega (arith, l); fact = refl }
 
@@ -124,7 +124,7 @@ six-first : Broken (6 ∷ 0 ∷ 0 ∷ 8 ∷ 13 ∷ []) 0 0
 unfolding dist probe wrap
 six-first = at-once (6 ∷ 0 ∷ 0 ∷ 8 ∷ 13 ∷ []) 0 (omega arith) (apart 6 0 tt) (omega arith) (omega arith)
 
-pub lowest-gap : Gapped (modulo 5) (ones (6 ∷ 0 ∷ 0 ∷ 8 ∷ 13 ∷ []))
+pub lowest-gap : Gapped (spread plain 5) (ones (6 ∷ 0 ∷ 0 ∷ 8 ∷ 13 ∷ []))
 unfolding probe wrap
 lowest-gap = record { cell = 0; steps = 0; breaks = six-first; lowest = λ i s l b. omega (arith, l); fact = refl }
 
@@ -139,7 +139,7 @@ one-home zero s l b = b .key refl
 one-home (suc zero) s l b = let z : s < 0 = b .before in omega arith
 one-home (suc (suc i)) s l b = omega (arith, l)
 
-pub lowest-disorder : Disordered (modulo 5) (ones (0 ∷ 1 ∷ 6 ∷ 0 ∷ 3 ∷ []))
+pub lowest-disorder : Disordered (spread plain 5) (ones (0 ∷ 1 ∷ 6 ∷ 0 ∷ 3 ∷ []))
 unfolding probe wrap
 lowest-disorder = record { cell = 2; steps = 0; breaks = six-second; lowest = one-home; fact = apart (content 1 1) 0 tt }
 

@@ -2,9 +2,9 @@
 use mathlib.Core.Path.{_≡_}
 use mathlib.Core.Logic.{_⊎_}
 use mathlib.Core.List.{List, [], _∷_, map}
-use Rattle.layout.specs.Home.{modulo}
 use Rattle.layout.specs.Layout.{In}
 use Rattle.layout.specs.Sound.{Ordered}
+use Rattle.homes.specs.Homes.{plain, spread}
 use Rattle.prices.specs.Contents.{label}
 use Rattle.prices.specs.Priced.{labels}
 use Rattle.orders.specs.declared.Order.{Order}
@@ -29,7 +29,7 @@ threeKeys =
     ∷ turns (lent (oneLine 5 1 0) (order 0 0 0) ∷ turns (turns (lent (oneLine 4 1 0) (order 0 0 0) ∷ turns (turns []))))
 
 abbrev pub overfull : History
-overfull = afterLent gateway 1 1 (0 ∷ 0 ∷ []) (oneLine 3 1 0) threeKeys
+overfull = afterLent gateway 1 1 plain (0 ∷ 0 ∷ []) (oneLine 3 1 0) threeKeys
 
 -- 7 is taken out of two cells, whatever list is lent
 abbrev pub takenOut : List Lent
@@ -42,6 +42,7 @@ pub record Altered : Type 0 where
   pub ordered : overfull .ordered ≡ ones (4 ∷ 5 ∷ 3 ∷ [])
   -- by the promise: no key is lost, and every key's path holds only greater keys
   pub kept : In 3 (labels label (overfull .table)) ⊎ Carried overfull 3
-  pub paths : Ordered 2 (modulo 2) (labels label (overfull .table))
+  pub paths : Ordered 2 (spread plain 2) (labels label (overfull .table))
   -- a delete phase reads no list
-  pub unread : afterLent gateway 2 1 (ones (0 ∷ 7 ∷ [])) [] takenOut ≡ after gateway 2 1 (ones (0 ∷ 7 ∷ [])) [] (map (λ (c : Lent). c .asks) takenOut)
+  pub unread : afterLent gateway 2 1 plain (ones (0 ∷ 7 ∷ [])) [] takenOut
+      ≡ after gateway 2 1 plain (ones (0 ∷ 7 ∷ [])) [] (map (λ (c : Lent). c .asks) takenOut)

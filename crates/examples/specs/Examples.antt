@@ -1,7 +1,8 @@
 -- Worked examples as one table: document 01's tables to try that are marked P, with price 1 beside every label, phases call by call, the same where
 -- prices differ, and the tables of the other files here.
 use mathlib.Core.List.{List, [], _∷_, _++_, map}
-use Prim.Native.Nat.{ℕ, zero, suc}
+use Prim.Native.Nat.{ℕ}
+use Rattle.homes.specs.Homes.{plain}
 use Rattle.prices.specs.Contents.{label, content}
 use Rattle.prices.specs.Priced.{withoutLabels}
 use Rattle.orders.specs.Orders.{orderWith}
@@ -9,12 +10,13 @@ use Rattle.orders.specs.declared.Order.{Order}
 use Rattle.history.specs.History.{order, turn, close}
 use Rattle.rule.specs.Schedules.{ones, schedules}
 use Rattle.examples.specs.Forms.{Example, laid, unsound, word, calling, closing, emptyCells, line, handed, AllSay}
-use Rattle.examples.specs.Forms.{Told, ok, refuses, on, done, found, missing, rests}
+use Rattle.examples.specs.Forms.{Told, ok, refuses, on, ons, done, found, missing, rests}
 use Rattle.examples.specs.Traces.{traces}
 use Rattle.examples.specs.Bounds.{bounds}
 use Rattle.examples.specs.Limits.{limits}
 use Rattle.examples.specs.Orders.{oneLine, wrongLines, orders}
 use Rattle.examples.specs.Repairs.{repairs}
+use Rattle.examples.specs.Spreading.{spreads, AllSpread}
 
 -- document 01's four keys in five cells
 abbrev pub four : List ℕ
@@ -49,11 +51,6 @@ tables =
     ∷ []
 
 -- ---- phases, each call with its answer
--- r turns of worker w that go on, put before further calls
-unfoldable pub ons : ℕ → ℕ → List Told → List Told
-ons zero w cs = cs
-ons (suc r) w cs = on w ∷ ons r w cs
-
 -- 13 ordered out by two workers; a close before both have finished gets 10, calls after the close get 11
 abbrev pub twoTakeOut : List Told
 twoTakeOut =
@@ -167,5 +164,8 @@ prices =
 abbrev pub examples : List Example
 examples = tables ++ phases ++ prices ++ traces ++ bounds ++ limits ++ orders ++ repairs ++ map closing schedules
 
-abbrev pub ExamplesPromise : Type 0
-ExamplesPromise = AllSay examples
+pub record ExamplesPromise : Type 0 where
+  -- with a of 1 and b of 0
+  pub as-before : AllSay plain examples
+  -- and each further list under its own a and b
+  pub spreading : AllSpread spreads

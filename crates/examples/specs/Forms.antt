@@ -1,11 +1,13 @@
--- The forms that a worked example may have, and what an example of each form says. Numbers of refusals are the documents', 0 where there is none.
+-- The forms that a worked example may have, and what an example of each form says of tables that are used with a and b. Numbers of refusals are the
+-- documents', 0 where there is none.
 use mathlib.Core.Path.{_≡_}
 use mathlib.Core.Logic.{_≢_}
 use mathlib.Core.Bool.{Bool, true, false}
 use mathlib.Core.List.{List, [], _∷_, map}
-use Prim.Native.Nat.{ℕ, _≤_}
+use Prim.Native.Nat.{ℕ, zero, suc, _≤_}
 use lib.ListN.{length, set, replicate}
-use Rattle.layout.specs.Home.{modulo}
+use Rattle.homes.specs.Homes.{plain, spread}
+use Rattle.homes.specs.declared.Hash.{Hash}
 use Rattle.prices.specs.Contents.{label, SoundTable}
 use Rattle.prices.specs.Priced.{pricedLayout}
 use Rattle.orders.specs.declared.Order.{Order}
@@ -33,9 +35,12 @@ abbrev pub emptyCells : ℕ → List ℕ
 emptyCells n = replicate n 0
 
 -- ---- phase states, written out
--- of kind k with n cells and m workers
+-- of kind k with n cells and m workers, by a and b; and with a of 1 and b of 0
+abbrev pub phaseBy : Hash → (k n m : ℕ) → Bool → List Worker → Phase
+phaseBy ab k n m shut ws = record { kind = k; length = n; crew = m; shut = shut; hash = ab; workers = ws }
+
 abbrev pub phase : (k n m : ℕ) → Bool → List Worker → Phase
-phase k n m shut ws = record { kind = k; length = n; crew = m; shut = shut; workers = ws }
+phase k n m shut ws = phaseBy plain k n m shut ws
 
 abbrev pub worker : Activity → Worker
 worker a = record { activity = a }
@@ -45,14 +50,20 @@ abbrev pub allIdle : List Worker
 allIdle = replicate 16 (worker activity.Idle)
 
 -- an open phase of m workers, of which worker w is doing a and the others are idle
+abbrev pub busyBy : Hash → (k n m w : ℕ) → Activity → Phase
+busyBy ab k n m w a = phaseBy ab k n m false (set allIdle w (worker a))
+
 abbrev pub busyOne : (k n m w : ℕ) → Activity → Phase
-busyOne k n m w a = phase k n m false (set allIdle w (worker a))
+busyOne k n m w a = busyBy plain k n m w a
 
 -- the same for one worker alone
-abbrev pub alone : (k n : ℕ) → Activity → Phase
-alone k n a = busyOne k n 1 0 a
+abbrev pub aloneBy : Hash → (k n : ℕ) → Activity → Phase
+aloneBy ab k n a = busyBy ab k n 1 0 a
 
--- what a refused opening hands back: a shut record of kind 3, length 2 and one worker, all idle
+abbrev pub alone : (k n : ℕ) → Activity → Phase
+alone k n a = aloneBy plain k n a
+
+-- what a refused opening hands back: a shut record of kind 3, length 2 and one worker, all idle, with a of 1 and b of 0
 abbrev pub handedBack : Phase
 handedBack = phase 3 2 1 true allIdle
 
@@ -81,6 +92,11 @@ refuses c r = told c (numbers.refused r)
 -- a turn of worker w that answers went on, finished, a price, no or idle
 abbrev pub on : ℕ → Told
 on w = told (turn w) (numbers.word 1)
+
+-- r turns that go on, put before further calls
+unfoldable pub ons : ℕ → ℕ → List Told → List Told
+ons zero w cs = cs
+ons (suc r) w cs = on w ∷ ons r w cs
 
 abbrev pub done : ℕ → Told
 done w = told (turn w) (numbers.word 2)
@@ -114,13 +130,15 @@ pub data Example : Type 0 where
   opening : (M : Model) (k m : ℕ) (table : List ℕ) (orders : List Order) (number : ℕ) (p : Phase) → Example
   -- an order call on the phase state p, lent these orders, by line i or for worker w and key v, answers with this number, and gives the phase state q
   ordering : (p : Phase) (orders : List Order) (i w v number : ℕ) (q : Phase) → Example
+  -- a close call on the phase state p answers with this number, and gives the phase state q
+  ending : (p : Phase) (number : ℕ) (q : Phase) → Example
   -- openings without orders, check, count and list on n empty cells answer with this number; the count gives 0, and the list stays as it is
   empties : (n number : ℕ) → Example
   -- check, count, list and the openings of every kind refuse the table with this number, whatever crew, orders and list they are lent within the limits;
   -- the list stays as it is
   marked : (table : List ℕ) (number : ℕ) → Example
   -- from an opening of kind k with m workers on the table, lent these orders, each call is answered as told; so many turns are counted; in the end the
-  -- phase is closed, and this table is left
+  -- phase is closed, its state has what was opened, and this table is left
   calling : (k m : ℕ) (table : List ℕ) (orders : List Order) (calls : List Told) (counted : ℕ) (closed : List ℕ) → Example
   -- one turn of a worker that is doing a, alone in a phase of kind k: it answers r and leaves the worker doing b, and this table
   tracing : (k : ℕ) (table : List ℕ) (a : Activity) (r : Answer) (b : Activity) (after : List ℕ) → Example
@@ -151,47 +169,50 @@ callsOf cs = map (λ (c : Told). c .call) cs
 abbrev pub answersTold : List Told → List ℕ
 answersTold cs = map (λ (c : Told). c .answer) cs
 
-abbrev pub Says : Example → Type 0
-Says (laid n es t) = pricedLayout n label (modulo n) es ≡ t
-Says (unsound t) = SoundTable (length t) (modulo (length t)) t → ⊥
-Says (word t g w place) = (wordOf (group t g) ≡ w) × (placeOf t g ≡ place)
-Says (stepping cells out c u) = (occupied cells ≡ c) × (filled cells out ≡ u)
-Says (passing t out g u) = passed t g out ≡ u
-Says (counting t r c) = (replyNumber (checkCall gateway t) ≡ r) × (countNumber (countCall gateway t) ≡ r) × (countValue (countCall gateway t) ≡ c)
-Says (listing t out r c u front) =
-    (countNumber (listCall gateway t out) ≡ r)
-    × (countValue (listCall gateway t out) ≡ c)
-    × (listAfter gateway t out ≡ u)
-    × (listFront gateway t out ≡ front)
-Says (opening M k m t os r p) = (replyNumber (openCall M k m t os .reply) ≡ r) × (openCall M k m t os .phase ≡ p)
-Says (ordering p os i w v r q) = (replyNumber (orderCall gateway p os i w v .reply) ≡ r) × (orderCall gateway p os i w v .phase ≡ q)
-Says (empties n r) =
-    ((k m : ℕ) → (1 ≤ k) × (k ≤ 3) → (1 ≤ m) × (m ≤ 16) → replyNumber (openReply gateway k m (emptyCells n) []) ≡ r)
-    × (replyNumber (checkCall gateway (emptyCells n)) ≡ r)
-    × (countNumber (countCall gateway (emptyCells n)) ≡ r)
-    × (countValue (countCall gateway (emptyCells n)) ≡ 0)
-    × ((out : List ℕ) → (countNumber (listCall gateway (emptyCells n) out) ≡ r) × (listAfter gateway (emptyCells n) out ≡ out))
-Says (marked t r) =
+abbrev pub Says : Hash → Example → Type 0
+Says ab (laid n es t) = pricedLayout n label (spread ab n) es ≡ t
+Says ab (unsound t) = SoundTable (length t) (spread ab (length t)) t → ⊥
+Says ab (word t g w place) = (wordOf (group t g) ≡ w) × (placeOf t g ≡ place)
+Says ab (stepping cells out c u) = (occupied cells ≡ c) × (filled cells out ≡ u)
+Says ab (passing t out g u) = passed t g out ≡ u
+Says ab (counting t r c) =
+    (replyNumber (checkCall gateway ab t) ≡ r) × (countNumber (countCall gateway ab t) ≡ r) × (countValue (countCall gateway ab t) ≡ c)
+Says ab (listing t out r c u front) =
+    (countNumber (listCall gateway ab t out) ≡ r)
+    × (countValue (listCall gateway ab t out) ≡ c)
+    × (listAfter gateway ab t out ≡ u)
+    × (listFront gateway ab t out ≡ front)
+Says ab (opening M k m t os r p) = (replyNumber (openCall M k m ab t os .reply) ≡ r) × (openCall M k m ab t os .phase ≡ p)
+Says ab (ordering p os i w v r q) = (replyNumber (orderCall gateway p os i w v .reply) ≡ r) × (orderCall gateway p os i w v .phase ≡ q)
+Says ab (ending p r q) = (replyNumber (closeCall gateway p .reply) ≡ r) × (closeCall gateway p .phase ≡ q)
+Says ab (empties n r) =
+    ((k m : ℕ) → (1 ≤ k) × (k ≤ 3) → (1 ≤ m) × (m ≤ 16) → replyNumber (openReply gateway k m ab (emptyCells n) []) ≡ r)
+    × (replyNumber (checkCall gateway ab (emptyCells n)) ≡ r)
+    × (countNumber (countCall gateway ab (emptyCells n)) ≡ r)
+    × (countValue (countCall gateway ab (emptyCells n)) ≡ 0)
+    × ((out : List ℕ) → (countNumber (listCall gateway ab (emptyCells n) out) ≡ r) × (listAfter gateway ab (emptyCells n) out ≡ out))
+Says ab (marked t r) =
     ((k m : ℕ) (os : List Order) → (1 ≤ k) × (k ≤ 3) → (1 ≤ m) × (m ≤ 16) → length os ≤ 65536
-    → (replyNumber (openCall gateway k m t os .reply) ≡ r) × (openCall gateway k m t os .phase ≡ handedBack))
-    × (replyNumber (checkCall gateway t) ≡ r)
-    × (countNumber (countCall gateway t) ≡ r)
-    × (countValue (countCall gateway t) ≡ 0)
-    × ((out : List ℕ) → (countNumber (listCall gateway t out) ≡ r) × (listAfter gateway t out ≡ out) × (listFront gateway t out ≡ []))
-Says (calling k m t os cs i u) =
-    (replyNumber (openReply gateway k m t os) ≡ 0)
-    × (answersOf gateway os (callsOf cs) (history.opening gateway k m t os) ≡ answersTold cs)
-    × (after gateway k m t os (callsOf cs) .counted ≡ i)
-    × (after gateway k m t os (callsOf cs) .closed ≡ true)
-    × (after gateway k m t os (callsOf cs) .table ≡ u)
-Says (tracing k t a r b u) =
-    (turnCall gateway (alone k (length t) a) t 0 ≡ record { phase = alone k (length t) b; reply = Answered r })
-    × (turnTable gateway (alone k (length t) a) t 0 ≡ u)
-Says (refusing p t w r) = (turnNumber (turnCall gateway p t w .reply) ≡ r) × (turnCall gateway p t w .phase ≡ p) × (turnTable gateway p t w ≡ t)
-Says (bound p q) = Unspoilt p × Spoilt q
-Says (closing s) = Closes s
+    → (replyNumber (openCall gateway k m ab t os .reply) ≡ r) × (openCall gateway k m ab t os .phase ≡ handedBack))
+    × (replyNumber (checkCall gateway ab t) ≡ r)
+    × (countNumber (countCall gateway ab t) ≡ r)
+    × (countValue (countCall gateway ab t) ≡ 0)
+    × ((out : List ℕ) → (countNumber (listCall gateway ab t out) ≡ r) × (listAfter gateway ab t out ≡ out) × (listFront gateway ab t out ≡ []))
+Says ab (calling k m t os cs i u) =
+    (replyNumber (openReply gateway k m ab t os) ≡ 0)
+    × (answersOf gateway os (callsOf cs) (history.opening gateway k m ab t os) ≡ answersTold cs)
+    × (after gateway k m ab t os (callsOf cs) .counted ≡ i)
+    × (after gateway k m ab t os (callsOf cs) .closed ≡ true)
+    × (after gateway k m ab t os (callsOf cs) .phase ≡ phaseBy ab k (length t) m true allIdle)
+    × (after gateway k m ab t os (callsOf cs) .table ≡ u)
+Says ab (tracing k t a r b u) =
+    (turnCall gateway (aloneBy ab k (length t) a) t 0 ≡ record { phase = aloneBy ab k (length t) b; reply = Answered r })
+    × (turnTable gateway (aloneBy ab k (length t) a) t 0 ≡ u)
+Says ab (refusing p t w r) = (turnNumber (turnCall gateway p t w .reply) ≡ r) × (turnCall gateway p t w .phase ≡ p) × (turnTable gateway p t w ≡ t)
+Says ab (bound p q) = Unspoilt p × Spoilt q
+Says ab (closing s) = Closes s
 
 -- every example of a list holds
-abbrev pub AllSay : List Example → Type 0
-AllSay [] = Unit {0}
-AllSay (e ∷ es) = Says e × AllSay es
+abbrev pub AllSay : Hash → List Example → Type 0
+AllSay ab [] = Unit {0}
+AllSay ab (e ∷ es) = Says ab e × AllSay ab es

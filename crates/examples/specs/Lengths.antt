@@ -4,7 +4,7 @@ use mathlib.Core.Bool.{false}
 use mathlib.Core.List.{List, [], _∷_}
 use lib.ListN.{getD, set}
 use Prim.Native.Nat.{ℕ}
-use Rattle.layout.specs.Home.{modulo}
+use Rattle.homes.specs.Homes.{plain, spread}
 use Rattle.prices.specs.Contents.{label, content}
 use Rattle.prices.specs.Priced.{pricedLayout}
 use Rattle.orders.specs.Orders.{orderWith}
@@ -93,18 +93,20 @@ abbrev pub looking : Phase
 looking = alone 3 3 (Reading (content 4 0) 1)
 
 pub record OtherLengths : Type 0 where
-  pub look-up : after gateway 3 1 seven [] oneLooks .table ≡ after gateway 3 2 seven [] twoLook .table
-  pub put-in : after gateway 1 1 (emptyCells 3) oneItems onePuts .table ≡ after gateway 1 2 (emptyCells 3) twoItems twoPut .table
-  pub put-in-prices : after gateway 1 1 (emptyCells 3) onePriceItems onePrice .table ≡ after gateway 1 2 (emptyCells 3) twoPriceItems twoPrices .table
-  pub one-end : events.after 1 4 1 label (modulo 4) (emptyCells 4) oneInserts .table ≡ events.after 1 4 2 label (modulo 4) (emptyCells 4) twoInsert .table
+  pub look-up : after gateway 3 1 plain seven [] oneLooks .table ≡ after gateway 3 2 plain seven [] twoLook .table
+  pub put-in : after gateway 1 1 plain (emptyCells 3) oneItems onePuts .table ≡ after gateway 1 2 plain (emptyCells 3) twoItems twoPut .table
+  pub put-in-prices : after gateway 1 1 plain (emptyCells 3) onePriceItems onePrice .table
+      ≡ after gateway 1 2 plain (emptyCells 3) twoPriceItems twoPrices .table
+  pub one-end : events.after 1 4 1 label (spread plain 4) (emptyCells 4) oneInserts .table
+      ≡ events.after 1 4 2 label (spread plain 4) (emptyCells 4) twoInsert .table
   -- labels ordered from a list that together with the table has fewer than there are cells leave room
-  pub room : Roomy 4 label (emptyCells 4) (events.after 1 4 1 label (modulo 4) (emptyCells 4) oneInserts)
+  pub room : Roomy 4 label (emptyCells 4) (events.after 1 4 1 label (spread plain 4) (emptyCells 4) oneInserts)
   -- two turns of put-in shifts, and of look-up shifts, answer alike
   pub insert-turns : turnCall gateway replacing emptied 0 .reply ≡ turnCall gateway (third replacing) alsoEmptied 2 .reply
   pub find-turns : turnCall gateway looking holding 0 .reply ≡ turnCall gateway (third looking) alsoHolding 2 .reply
-  pub one-layout : seven ≡ pricedLayout 2 label (modulo 2) (content 7 2 ∷ one 7 ∷ [])
-  pub passes : replyNumber (checkCall gateway seven) ≡ 0
-  pub count : countValue (countCall gateway seven) ≡ 1
-  pub listed : getD (listAfter gateway seven sixPlaces) 0 0 ≡ one 7
-  pub front : getD (listFront gateway seven sixPlaces) 0 0 ≡ one 7
-  pub kept : after gateway 1 1 seven (oneLine 7 1 0) (turn 0 ∷ line 1 ∷ turn 0 ∷ []) .table ≡ seven
+  pub one-layout : seven ≡ pricedLayout 2 label (spread plain 2) (content 7 2 ∷ one 7 ∷ [])
+  pub passes : replyNumber (checkCall gateway plain seven) ≡ 0
+  pub count : countValue (countCall gateway plain seven) ≡ 1
+  pub listed : getD (listAfter gateway plain seven sixPlaces) 0 0 ≡ one 7
+  pub front : getD (listFront gateway plain seven sixPlaces) 0 0 ≡ one 7
+  pub kept : after gateway 1 1 plain seven (oneLine 7 1 0) (turn 0 ∷ line 1 ∷ turn 0 ∷ []) .table ≡ seven

@@ -8,4 +8,5 @@ pub mod Limits
 pub mod Meanings
 pub mod Orders
 pub mod Repairs
+pub mod Spreading
 pub mod Traces

@@ -4,7 +4,8 @@ use mathlib.Core.Logic.{_≢_}
 use mathlib.Core.Bool.{true, false}
 use mathlib.Core.List.{[], _∷_}
 use Prim.Native.Nat.{ℕ, _≤_}
-use Rattle.layout.specs.Home.{modulo}
+use Rattle.homes.specs.Homes.{plain, spread}
+use Rattle.homes.specs.Promise.{Even, Odd}
 use Rattle.prices.specs.Contents.{label, content}
 use Rattle.flaws.specs.Promise.{Intact, Breaks, Gapped, Disordered}
 use Rattle.orders.specs.Orders.{orderWith}
@@ -31,7 +32,7 @@ pub record Meanings : Type 0 where
   pub wrong-before : Right label atPrices
       (record { wanted = content 8 0; found = true; price = 9 } ∷ record { wanted = content 3 0; found = false; price = 0 } ∷ []) → ⊥
   -- room: each label is counted once, at however many prices
-  pub room : Roomy 2 label (0 ∷ 0 ∷ []) (after 1 2 2 label (modulo 2) (0 ∷ 0 ∷ []) (order 0 (content 8 5) ∷ order 1 (content 8 3) ∷ []))
+  pub room : Roomy 2 label (0 ∷ 0 ∷ []) (after 1 2 2 label (spread plain 2) (0 ∷ 0 ∷ []) (order 0 (content 8 5) ∷ order 1 (content 8 3) ∷ []))
   -- a good line: a label, a price from 1 to 9,999,999, a worker below the count
   pub good : Good 2 (orderWith 5 1 1)
   pub good-dearest : Good 2 (orderWith 4294967295 9999999 0)
@@ -63,13 +64,20 @@ pub record Meanings : Type 0 where
   pub not-unlabelled : Intact (0 ∷ 7 ∷ []) → ⊥
   -- a label breaks the order by the first content on its way that isn't greater: 8 in cell 0 by the empty cell 4 behind 13, by the empty cell 3 and not
   -- by 4 behind it; in a sound table none does, nor by its own content
-  pub behind-greater : Breaks 5 (modulo 5) (8 ∷ 0 ∷ 0 ∷ 13 ∷ 0 ∷ []) 0 1
-  pub empty-first : Breaks 5 (modulo 5) (8 ∷ 0 ∷ 0 ∷ 0 ∷ 4 ∷ []) 0 0
-  pub not-nearest : Breaks 5 (modulo 5) (8 ∷ 0 ∷ 0 ∷ 0 ∷ 4 ∷ []) 0 1 → ⊥
-  pub in-order : (j s : ℕ) → Breaks 5 (modulo 5) (0 ∷ 0 ∷ 0 ∷ 13 ∷ 8 ∷ []) j s → ⊥
+  pub behind-greater : Breaks 5 (spread plain 5) (8 ∷ 0 ∷ 0 ∷ 13 ∷ 0 ∷ []) 0 1
+  pub empty-first : Breaks 5 (spread plain 5) (8 ∷ 0 ∷ 0 ∷ 0 ∷ 4 ∷ []) 0 0
+  pub not-nearest : Breaks 5 (spread plain 5) (8 ∷ 0 ∷ 0 ∷ 0 ∷ 4 ∷ []) 0 1 → ⊥
+  pub in-order : (j s : ℕ) → Breaks 5 (spread plain 5) (0 ∷ 0 ∷ 0 ∷ 13 ∷ 8 ∷ []) j s → ⊥
   -- the lowest-numbered cell decides
-  pub gap : Gapped (modulo 5) gapped
-  pub disorder : Disordered (modulo 5) disordered
-  pub empty-decides : Gapped (modulo 5) (ones (8 ∷ 0 ∷ 0 ∷ 0 ∷ 4 ∷ []))
-  pub lowest-gap : Gapped (modulo 5) (ones (6 ∷ 0 ∷ 0 ∷ 8 ∷ 13 ∷ []))
-  pub lowest-disorder : Disordered (modulo 5) (ones (0 ∷ 1 ∷ 6 ∷ 0 ∷ 3 ∷ []))
+  pub gap : Gapped (spread plain 5) gapped
+  pub disorder : Disordered (spread plain 5) disordered
+  pub empty-decides : Gapped (spread plain 5) (ones (8 ∷ 0 ∷ 0 ∷ 0 ∷ 4 ∷ []))
+  pub lowest-gap : Gapped (spread plain 5) (ones (6 ∷ 0 ∷ 0 ∷ 8 ∷ 13 ∷ []))
+  pub lowest-disorder : Disordered (spread plain 5) (ones (0 ∷ 1 ∷ 6 ∷ 0 ∷ 3 ∷ []))
+  -- an even a, and an odd one
+  pub even : Even 4294967294
+  pub even-none : Even 0
+  pub not-even : Even 4294967295 → ⊥
+  pub odd : Odd 4294967295
+  pub odd-one : Odd 1
+  pub not-odd : Odd 0 → ⊥

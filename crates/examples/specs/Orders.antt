@@ -4,7 +4,7 @@ use mathlib.Core.Bool.{Bool, true, false}
 use mathlib.Core.List.{List, [], _∷_, _++_}
 use Prim.Native.Nat.{ℕ}
 use lib.ListN.{length, set}
-use Rattle.layout.specs.Home.{modulo}
+use Rattle.homes.specs.Homes.{plain, spread}
 use Rattle.prices.specs.Contents.{content}
 use Rattle.orders.specs.Orders.{orderWith, ordersOf}
 use Rattle.orders.specs.declared.Order.{Order}
@@ -37,7 +37,7 @@ opensIn M k m t os = opening M k m t os 0 (phase k (length t) m false allIdle)
 abbrev pub barredIn : (M : Model) (k m : ℕ) (table : List ℕ) (orders : List Order) (number : ℕ) → Example
 barredIn M k m t os r = opening M k m t os r handedBack
 
--- a put-in shift of two workers in document 01's model
+-- a put-in shift of two workers in the documents' model
 abbrev pub takes : (table : List ℕ) (orders : List Order) → Example
 takes t os = opensIn gateway 1 2 t os
 
@@ -46,7 +46,7 @@ bars t os r = barredIn gateway 1 2 t os r
 
 -- a model like document 01's with lists of at most three lines
 abbrev pub threeLines : Model
-threeLines = record { fewestCells = 2; mostCells = 8192; fewestWorkers = 1; mostWorkers = 16; mostLines = 3; room = 16; home = modulo }
+threeLines = record { fewestCells = 2; mostCells = 8192; fewestWorkers = 1; mostWorkers = 16; mostLines = 3; room = 16; home = spread }
 
 -- four lines, and three: of them the first has label 0, no price and no worker, and with the table they have more labels than it has cells
 abbrev pub fourWrong : List Order
@@ -71,7 +71,7 @@ openingSequence =
     ∷ barredIn threeLines 1 1 (ones (0 ∷ 7 ∷ [])) (orderWith 5 0 99 ∷ orderWith 6 1 0 ∷ []) 14
     ∷ barredIn threeLines 1 1 (ones (0 ∷ 7 ∷ [])) (orderWith 5 1 99 ∷ orderWith 6 1 0 ∷ []) 6
     ∷ barredIn threeLines 1 1 (ones (0 ∷ 7 ∷ [])) (orderWith 5 1 0 ∷ orderWith 6 1 0 ∷ []) 9
-    -- a list of four lines is not long in document 01's model
+    -- a list of four lines is not long in the documents' model
     ∷ barredIn gateway 1 1 (ones (7 ∷ 0 ∷ [])) fourWrong 17
     ∷ barredIn gateway 1 1 (ones (0 ∷ 7 ∷ [])) fourWrong 7
     ∷ barredIn gateway 4 1 (ones (0 ∷ 7 ∷ [])) fourWrong 3
@@ -202,7 +202,7 @@ abbrev pub lentLines : List Order
 lentLines = orderWith 3 7 0 ∷ orderWith 13 2 1 ∷ []
 
 abbrev pub openedWithLines : Phase
-openedWithLines = openCall gateway 1 2 (emptyCells 5) lentLines .phase
+openedWithLines = openCall gateway 1 2 plain (emptyCells 5) lentLines .phase
 
 -- worker w just started on an entry from a home
 abbrev pub startedFrom : (w entry home : ℕ) → Phase

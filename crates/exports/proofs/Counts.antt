@@ -6,6 +6,7 @@ use native.Mathlib.Omega.{arith}
 use lib.ListN.{length, length-map}
 use Rattle.layout.specs.Layout.{size}
 use Rattle.layout.proofs.Sets.{size-le}
+use Rattle.homes.specs.declared.Hash.{Hash}
 use Rattle.prices.specs.Contents.{label}
 use Rattle.prices.specs.Priced.{labels}
 use Rattle.state.specs.Counts.{countNumber, countValue}
@@ -19,19 +20,19 @@ use Rattle.till.specs.Till.{tillCall}
 use Rattle.till.proofs.Theorem.{answers}
 use Rattle.exports.specs.Numbers.{CountsPromise}
 
-module _ (t out : List ℕ) (c : ℕ) where
-  abbrev at-rest : AtRest gateway t out
-  at-rest = theorem gateway gateway-proper t out
+module _ (ab : Hash) (t out : List ℕ) (c : ℕ) where
+  abbrev at-rest : AtRest gateway ab t out
+  at-rest = theorem gateway gateway-proper ab t out
 
-  is-count : countCall gateway t ≡ counted.Count c → (c ≡ size (labels label t)) × (length t ≤ 8192)
+  is-count : countCall gateway ab t ≡ counted.Count c → (c ≡ size (labels label t)) × (length t ≤ 8192)
   is-count e =
       let usable = at-rest .passes .0 (sym (at-rest .count-refused) ∙ ap countNumber e) in
       (sym (ap countValue e) ∙ at-rest .count-true usable, usable .0 .1)
 
-  is-listed : listCall gateway t out ≡ counted.Count c → (c ≡ size (labels label t)) × (length t ≤ 8192)
+  is-listed : listCall gateway ab t out ≡ counted.Count c → (c ≡ size (labels label t)) × (length t ≤ 8192)
   is-listed e =
-      let (_, (_, (_, (_, (_, none))))) = at-rest .list in
-      let (((((_, sized), _), _), _), _) = none .0 (ap countNumber e) in
+      let (_, (_, (_, (_, (_, (_, none)))))) = at-rest .list in
+      let ((((((_, sized), _), _), _), _), _) = none .0 (ap countNumber e) in
       (sym (ap countValue e) ∙ at-rest .list-true (ap countNumber e), sized .1)
 
 -- a till list has no more records than there are places
@@ -45,7 +46,7 @@ pub counts-promise : CountsPromise
 counts-promise = record {
   value = λ c. refl;
   refused = λ r. refl;
-  count = λ t c e. omega (arith, size-le (labels label t), length-map t label, is-count t t c e);
-  list = λ t out c e. omega (arith, size-le (labels label t), length-map t label, is-listed t out c e);
+  count = λ ab t c e. omega (arith, size-le (labels label t), length-map t label, is-count ab t t c e);
+  list = λ ab t out c e. omega (arith, size-le (labels label t), length-map t label, is-listed ab t out c e);
   till = is-read;
 }

@@ -1,8 +1,9 @@
--- Answers of the exported functions, as one number each.
+-- The hash function and the answers of the exported functions, as numbers.
 use mathlib.Core.Path.{_≡_}
-use mathlib.Core.List.{List, _++_}
+use mathlib.Core.List.{List, [], _∷_, _++_}
 use Prim.Native.Nat.{ℕ, _+_, _^_, _≤_, _<_}
 use lib.ListN.{length, drop}
+use Rattle.homes.specs.declared.Hash.{Hash}
 use Rattle.orders.specs.declared.Order.{Order}
 use Rattle.state.specs.Model.{Model, gateway}
 use Rattle.state.specs.Open.{openReply}
@@ -16,6 +17,7 @@ use Rattle.history.specs.History.{Call, opening, after}
 use Rattle.numbered.specs.Numbers.{refusalAnswer, replyAnswer}
 use Rattle.numbered.specs.Lists.{answersOf}
 use Rattle.numbered.specs.Batch.{dealt}
+use Rattle.numbered.specs.Examples.{Batch, batches}
 
 -- the count, or the number of the refusal
 abbrev pub countedAnswer : Counted → ℕ
@@ -26,18 +28,31 @@ countedAnswer (counted.Refused r) = refusalAnswer r
 pub record CountsPromise : Type 0 where
   pub value : (c : ℕ) → countedAnswer (counted.Count c) ≡ c
   pub refused : (r : Refusal) → countedAnswer (counted.Refused r) ≡ 2 ^ 32 + numberOf r
-  pub count : (t : List ℕ) (c : ℕ) → countCall gateway t ≡ counted.Count c → c < 2 ^ 32
-  pub list : (t out : List ℕ) (c : ℕ) → listCall gateway t out ≡ counted.Count c → c < 2 ^ 32
+  pub count : (ab : Hash) (t : List ℕ) (c : ℕ) → countCall gateway ab t ≡ counted.Count c → c < 2 ^ 32
+  pub list : (ab : Hash) (t out : List ℕ) (c : ℕ) → listCall gateway ab t out ≡ counted.Count c → c < 2 ^ 32
   -- a till list's count is at most the places lent, so it is below 2³² where these are
   pub till : (text : List ℕ) (m places c : ℕ) → tillCall gateway text m places ≡ counted.Count c → c ≤ places
 
 -- an opening with the list of orders os, and the calls
-module _ (M : Model) (k m : ℕ) (t : List ℕ) (os : List Order) (ops lines workers keys out : List ℕ) where
+module _ (M : Model) (k m : ℕ) (ab : Hash) (t : List ℕ) (os : List Order) (ops lines workers keys out : List ℕ) where
   abbrev calls : List Call
-  calls = dealt M k m t os ops lines workers keys out
+  calls = dealt M k m ab t os ops lines workers keys out
 
   -- the number of the opening's answer, the table after the calls, and the list lent for the answers, in which the places behind them keep their contents
   pub record RunNumbers (r : ℕ) (t′ out′ : List ℕ) : Type 0 where
-    pub reply : r ≡ replyAnswer (openReply M k m t os)
-    pub table : t′ ≡ after M k m t os calls .table
-    pub answers : out′ ≡ answersOf M os calls (opening M k m t os) ++ drop (length calls) out
+    pub reply : r ≡ replyAnswer (openReply M k m ab t os)
+    pub table : t′ ≡ after M k m ab t os calls .table
+    pub answers : out′ ≡ answersOf M os calls (opening M k m ab t os) ++ drop (length calls) out
+
+-- the batches of numbered/specs/Examples are given so, with the answers, tables and lists written out there. Proved in proofs/Batches
+abbrev pub Given : Batch → Type 0
+Given b =
+    RunNumbers gateway (b .kind) (b .crew) (b .hash) (b .table) (b .orders) (b .ops) (b .lines) (b .workers) (b .keys) (b .out)
+    (b .reply) (b .closed) (b .answers)
+
+abbrev pub AllGiven : List Batch → Type 0
+AllGiven [] = Unit {0}
+AllGiven (b ∷ bs) = Given b × AllGiven bs
+
+abbrev pub GivenPromise : Type 0
+GivenPromise = AllGiven batches

@@ -1,4 +1,5 @@
 // Functions for C and Rust: numbers and slices alone. The header vulzegan.h declares them.
+use homes::Hash;
 use orders::Order;
 use singly::refusal_answer;
 use singly::reply_answer;
@@ -7,6 +8,7 @@ use state::Phase;
 use state::Replied;
 ghost use mathlib.Core.Path.{_≡_};
 ghost use lib.ListN.{length};
+ghost use Rattle.homes.specs.Homes.{hashOf};
 ghost use Rattle.orders.specs.Orders.{ordersOf};
 ghost use Rattle.state.specs.Model.{gateway};
 ghost use Rattle.state.specs.Open.{openCall};
@@ -26,31 +28,31 @@ fn counted_answer(counted: Counted) -> u64
     }
 }
 
-// Whether the table is sound: 0, or the number of the refusal.
+// Whether the table is sound by a and b: 0, or the number of the refusal.
 #[no_mangle]
-pub extern "C" fn vulzegan_check(cells: &[u64]) -> u64
-    ensures { λ r. ⌜ r ≡ replyAnswer (checkCall gateway (now (cells .entry))) ⌝ }
+pub extern "C" fn vulzegan_check(a: u32, b: u32, cells: &[u64]) -> u64
+    ensures { λ r. ⌜ r ≡ replyAnswer (checkCall gateway (hashOf a b) (now (cells .entry))) ⌝ }
 {
-    let checked = rest::check(cells);
+    let checked = rest::check(Hash { a, b }, cells);
     reply_answer(checked)
 }
 
 // How many keys the table has.
 #[no_mangle]
-pub extern "C" fn vulzegan_count(cells: &[u64]) -> u64
-    ensures { λ r. ⌜ r ≡ countedAnswer (countCall gateway (now (cells .entry))) ⌝ }
+pub extern "C" fn vulzegan_count(a: u32, b: u32, cells: &[u64]) -> u64
+    ensures { λ r. ⌜ r ≡ countedAnswer (countCall gateway (hashOf a b) (now (cells .entry))) ⌝ }
 {
-    let counted = rest::count(cells);
+    let counted = rest::count(Hash { a, b }, cells);
     counted_answer(counted)
 }
 
 // Lists the entries, each key with its price, in cell order at the front of `out`.
 #[no_mangle]
-pub extern "C" fn vulzegan_list(cells: &[u64], out: &mut [u64]) -> u64
-    ensures { λ r. ⌜ (r ≡ countedAnswer (listCall gateway (now (cells .entry)) (now (out .entry))))
-        × (now (out .exit) ≡ listAfter gateway (now (cells .entry)) (now (out .entry))) ⌝ }
+pub extern "C" fn vulzegan_list(a: u32, b: u32, cells: &[u64], out: &mut [u64]) -> u64
+    ensures { λ r. ⌜ (r ≡ countedAnswer (listCall gateway (hashOf a b) (now (cells .entry)) (now (out .entry))))
+        × (now (out .exit) ≡ listAfter gateway (hashOf a b) (now (cells .entry)) (now (out .entry))) ⌝ }
 {
-    let listed = rest::list(cells, out);
+    let listed = rest::list(Hash { a, b }, cells, out);
     counted_answer(listed)
 }
 
@@ -82,10 +84,17 @@ fn opened_answer(opened: Replied) -> u64
 
 // Whether a phase may be opened: 0, or the number of the refusal.
 #[no_mangle]
-pub extern "C" fn vulzegan_open(kind: u64, count: u64, cells: &[u64], orders: &[Order]) -> u64
-    ensures { λ r. ⌜ r ≡ replyAnswer (openCall gateway kind count (now (cells .entry)) (now (orders .entry)) .reply) ⌝ }
+pub extern "C" fn vulzegan_open(
+    kind: u64,
+    count: u64,
+    a: u32,
+    b: u32,
+    cells: &[u64],
+    orders: &[Order],
+) -> u64
+    ensures { λ r. ⌜ r ≡ replyAnswer (openCall gateway kind count (hashOf a b) (now (cells .entry)) (now (orders .entry)) .reply) ⌝ }
 {
-    let opened = Phase::open(kind, count, cells, orders);
+    let opened = Phase::open(kind, count, Hash { a, b }, cells, orders);
     opened_answer(opened)
 }
 
@@ -95,6 +104,8 @@ pub extern "C" fn vulzegan_open(kind: u64, count: u64, cells: &[u64], orders: &[
 pub extern "C" fn vulzegan_run_calls(
     kind: u64,
     count: u64,
+    a: u32,
+    b: u32,
     cells: &mut [u64],
     order_keys: &[u32],
     order_prices: &[u32],
@@ -105,17 +116,18 @@ pub extern "C" fn vulzegan_run_calls(
     keys: &[u32],
     answers: &mut [u64],
 ) -> u64
-    ensures is_run { λ r. ⌜ RunNumbers gateway kind count (now (cells .entry))
+    ensures is_run { λ r. ⌜ RunNumbers gateway kind count (hashOf a b) (now (cells .entry))
         (ordersOf (now («order_keys» .entry)) (now («order_prices» .entry)) (now («order_workers» .entry)))
         (now (ops .entry)) (now (lines .entry)) (now (workers .entry)) (now (keys .entry)) (now (answers .entry))
         r (now (cells .exit)) (now (answers .exit)) ⌝ }
-    ensures promise { λ r. ⌜ Promised gateway kind count (now (cells .entry))
+    ensures promise { λ r. ⌜ Promised gateway kind count (hashOf a b) (now (cells .entry))
         (ordersOf (now («order_keys» .entry)) (now («order_prices» .entry)) (now («order_workers» .entry)))
         (now (ops .entry)) (now (lines .entry)) (now (workers .entry)) (now (keys .entry)) (now (answers .entry)) ⌝ }
 {
     let ran = batch::run_calls(
         kind,
         count,
+        Hash { a, b },
         cells,
         order_keys,
         order_prices,
@@ -135,6 +147,8 @@ pub extern "C" fn vulzegan_run_calls(
 pub extern "C" fn vulzegan_run_calls_singly(
     kind: u64,
     count: u64,
+    a: u32,
+    b: u32,
     cells: &mut [u64],
     order_keys: &[u32],
     order_prices: &[u32],
@@ -145,17 +159,18 @@ pub extern "C" fn vulzegan_run_calls_singly(
     keys: &[u32],
     answers: &mut [u64],
 ) -> u64
-    ensures is_run { λ r. ⌜ RunNumbers gateway kind count (now (cells .entry))
+    ensures is_run { λ r. ⌜ RunNumbers gateway kind count (hashOf a b) (now (cells .entry))
         (ordersOf (now («order_keys» .entry)) (now («order_prices» .entry)) (now («order_workers» .entry)))
         (now (ops .entry)) (now (lines .entry)) (now (workers .entry)) (now (keys .entry)) (now (answers .entry))
         r (now (cells .exit)) (now (answers .exit)) ⌝ }
-    ensures promise { λ r. ⌜ Promised gateway kind count (now (cells .entry))
+    ensures promise { λ r. ⌜ Promised gateway kind count (hashOf a b) (now (cells .entry))
         (ordersOf (now («order_keys» .entry)) (now («order_prices» .entry)) (now («order_workers» .entry)))
         (now (ops .entry)) (now (lines .entry)) (now (workers .entry)) (now (keys .entry)) (now (answers .entry)) ⌝ }
 {
     let ran = batch::run_calls_singly(
         kind,
         count,
+        Hash { a, b },
         cells,
         order_keys,
         order_prices,

@@ -11,6 +11,7 @@ use Rattle.ring.specs.Ring.{wrap, probe, dist}
 use Rattle.ring.proofs.Tests.{not-both}
 use Rattle.layout.specs.Layout.{into, descending}
 use Rattle.ring.specs.Each.{all, some, first}
+use Rattle.homes.specs.Homes.{hashOf, plain}
 use Rattle.flaws.specs.Flaws.{meetsEmpty, meetsKey}
 use Rattle.orders.specs.Orders.{lineFault, linesFault}
 use Rattle.orders.specs.declared.Order.{Order}
@@ -18,7 +19,7 @@ use Rattle.rule.specs.Rule.{settled, absorbed, insertStep, findStep, rule}
 use Rattle.rule.specs.declared.Answer.the-variants.{Idle}
 use Rattle.state.specs.Model.{gateway}
 use Rattle.state.specs.Open.{openCall}
-use Rattle.state.specs.declared.Refusal.the-variants.{Full, NoLine}
+use Rattle.state.specs.declared.Refusal.the-variants.{Size, Full, NoLine, Even}
 use Rattle.state.specs.declared.Replied.{Replied}
 use Rattle.state.specs.declared.Reply.the-variants.{Accepted, Refused}
 use Rattle.words.specs.Words.{entriesOf}
@@ -124,7 +125,7 @@ abbrev cellsLine : ℕ → List ℕ
 cellsLine n = line "cells" (n ∷ [])
 
 abbrev openLine : ℕ → ℕ → List ℕ
-openLine k m = line "open" (k ∷ m ∷ [])
+openLine k m = line "open" (k ∷ m ∷ 1 ∷ 0 ∷ [])
 
 abbrev itemThree : List ℕ
 itemThree = line "item" (0 ∷ 3 ∷ 20 ∷ [])
@@ -183,7 +184,7 @@ cells-lead : Leads cellsLines withCells (bytesOf "1\tok\n")
 unfolding bytesOf digitsOf digitsWithin
 cells-lead = more [] blank [] none (cellsLine 5) (plains .cells .0) _ refl (before .cells 5 (omega arith) (omega arith)) (bytesOf "1\tok\n") refl
 
-check-passes : checkCall gateway (replicate 5 0) ≡ Accepted
+check-passes : checkCall gateway plain (replicate 5 0) ≡ Accepted
 unfolding meetsEmpty meetsKey first all some dist probe wrap
 check-passes = refl
 
@@ -192,19 +193,19 @@ abbrev openLines : List (List ℕ)
 openLines = cellsLines ++ openLine 1 2 ∷ []
 
 abbrev openState : State
-openState = stateWith (openCall gateway 1 2 (replicate 5 0) [] .phase) (replicate 5 0) []
+openState = stateWith (openCall gateway 1 2 plain (replicate 5 0) [] .phase) (replicate 5 0) []
 
 abbrev openOut : List ℕ
 openOut = bytesOf "1\tok\n2\tok\n"
 
-open-accepted : (openCall gateway 1 2 (replicate 5 0) [] .reply ≡ Accepted) × (openState .phase .kind ≡ 1) × (openState .phase .shut ≡ false)
+open-accepted : (openCall gateway 1 2 plain (replicate 5 0) [] .reply ≡ Accepted) × (openState .phase .kind ≡ 1) × (openState .phase .shut ≡ false)
 unfolding meetsEmpty meetsKey first all some dist probe wrap lineFault linesFault into descending
 open-accepted = (refl, refl, refl)
 
 open-lead : Leads openLines openState openOut
 unfolding bytesOf digitsOf digitsWithin
 open-lead = more cellsLines withCells _ cells-lead (openLine 1 2) (plains .opens .0) _ refl
-    (sheet-promise .shut withCells refl .opening 1 2 (omega arith) (omega arith)) (bytesOf "2\tok\n") (rw (open-accepted .0) refl)
+    (sheet-promise .shut withCells refl .opening 1 2 1 0 (omega arith) (omega arith) (omega arith) (omega arith) (open-accepted .0)) (bytesOf "2\tok\n") (rw (open-accepted .0) refl)
 
 running : InOpen openState
 running = sheet-promise .opened openState (open-accepted .2)
@@ -212,6 +213,30 @@ running = sheet-promise .opened openState (open-accepted .2)
 worker-idle : turnCall gateway (openState .phase) (replicate 5 0) 1 .reply ≡ Answered Idle
 unfolding isWellFormed meetsEmpty meetsKey first all some dist probe wrap count lineFault linesFault into descending
 worker-idle = refl
+
+-- ---- by other a and b
+abbrev spreadLine : (a b : ℕ) → List ℕ
+spreadLine a b = line "open" (3 ∷ 1 ∷ a ∷ b ∷ [])
+
+abbrev spreadLines : List (List ℕ)
+spreadLines = cellsLines ++ spreadLine 3 1 ∷ []
+
+abbrev spreadState : State
+spreadState = stateWith (openCall gateway 3 1 (hashOf 3 1) (replicate 5 0) [] .phase) (replicate 5 0) []
+
+spread-plain : Plain (spreadLine 3 1) × Plain (spreadLine 2 0)
+unfolding byteAt bytesOf digitsOf digitsWithin
+spread-plain = (refl, refl)
+
+spread-accepted : (openCall gateway 3 1 (hashOf 3 1) (replicate 5 0) [] .reply ≡ Accepted) × (checkCall gateway (spreadState .phase .hash) (replicate 5 0) ≡ Accepted)
+unfolding meetsEmpty meetsKey first all some dist probe wrap
+spread-accepted = (refl, refl)
+
+spread-lead : Leads spreadLines spreadState (bytesOf "1\tok\n2\tok\n")
+unfolding bytesOf digitsOf digitsWithin
+spread-lead = more cellsLines withCells _ cells-lead (spreadLine 3 1) (spread-plain .0) _ refl
+    (sheet-promise .shut withCells refl .opening 3 1 3 1 (omega arith) (omega arith) (omega arith) (omega arith) (spread-accepted .0)) (bytesOf "2\tok\n")
+    (rw (spread-accepted .0) refl)
 
 -- ---- two items
 abbrev three : Order
@@ -247,19 +272,19 @@ abbrev startLines : List (List ℕ)
 startLines = twoLines ++ openLine 1 2 ∷ []
 
 abbrev startState : State
-startState = stateWith (openCall gateway 1 2 (replicate 5 0) items .phase) (replicate 5 0) items
+startState = stateWith (openCall gateway 1 2 plain (replicate 5 0) items .phase) (replicate 5 0) items
 
 abbrev startOut : List ℕ
 startOut = bytesOf "1\tok\n2\tok\n3\tok\n4\tok\n"
 
-start-accepted : (openCall gateway 1 2 (replicate 5 0) items .reply ≡ Accepted) × (startState .phase .kind ≡ 1) × (startState .phase .shut ≡ false)
+start-accepted : (openCall gateway 1 2 plain (replicate 5 0) items .reply ≡ Accepted) × (startState .phase .kind ≡ 1) × (startState .phase .shut ≡ false)
 unfolding meetsEmpty meetsKey first all some dist probe wrap lineFault linesFault into descending
 start-accepted = (refl, refl, refl)
 
 start-lead : Leads startLines startState startOut
 unfolding bytesOf digitsOf digitsWithin
 start-lead = more twoLines twoState _ two-lead (openLine 1 2) (plains .opens .0) _ refl
-    (sheet-promise .shut twoState refl .opening 1 2 (omega arith) (omega arith)) (bytesOf "4\tok\n") (rw (start-accepted .0) refl)
+    (sheet-promise .shut twoState refl .opening 1 2 1 0 (omega arith) (omega arith) (omega arith) (omega arith) (start-accepted .0)) (bytesOf "4\tok\n") (rw (start-accepted .0) refl)
 
 starting : InOpen startState
 starting = sheet-promise .opened startState (start-accepted .2)
@@ -349,7 +374,7 @@ unfolding
 close-accepted = (refl, refl, refl)
 
 -- the table, each label with its price, is sound
-table-told : (checkCall gateway (ran .table) ≡ Accepted) × (listText (entriesOf (ran .table)) ≡ bytesOf "\t2\t8\t15\t3\t20")
+table-told : (checkCall gateway (closedState .phase .hash) (ran .table) ≡ Accepted) × (listText (entriesOf (ran .table)) ≡ bytesOf "\t2\t8\t15\t3\t20")
 unfolding
     bytesOf digitsOf digitsWithin laps deal dealTo isWellFormed rule settled absorbed insertStep meetsEmpty meetsKey first all some dist probe wrap count
     lineFault linesFault into descending
@@ -362,12 +387,12 @@ closed-lead = more ranLines ranState _ ran-lead closeLine (plains .others .2) _ 
 
 -- ---- the next put-in shift has no items
 abbrev nextState : State
-nextState = stateWith (openCall gateway 1 2 (ran .table) [] .phase) (ran .table) []
+nextState = stateWith (openCall gateway 1 2 plain (ran .table) [] .phase) (ran .table) []
 
 abbrev nextLines : List (List ℕ)
 nextLines = closedLines ++ openLine 1 2 ∷ []
 
-next-opens : (openCall gateway 1 2 (ran .table) [] .reply ≡ Accepted) × (nextState .phase .shut ≡ false) × (nextState .phase .kind ≡ 1)
+next-opens : (openCall gateway 1 2 plain (ran .table) [] .reply ≡ Accepted) × (nextState .phase .shut ≡ false) × (nextState .phase .kind ≡ 1)
 unfolding
     laps deal dealTo isWellFormed rule settled absorbed insertStep meetsEmpty meetsKey first all some dist probe wrap count lineFault linesFault into descending
 next-opens = (refl, refl, refl)
@@ -375,7 +400,7 @@ next-opens = (refl, refl, refl)
 next-lead : Leads nextLines nextState (closedOut ++ bytesOf "9\tok\n")
 unfolding bytesOf digitsOf digitsWithin
 next-lead = more closedLines closedState _ closed-lead (openLine 1 2) (plains .opens .0) _ refl
-    (sheet-promise .shut closedState (close-accepted .1) .opening 1 2 (omega arith) (omega arith)) (bytesOf "9\tok\n") (rw (next-opens .0) refl)
+    (sheet-promise .shut closedState (close-accepted .1) .opening 1 2 1 0 (omega arith) (omega arith) (omega arith) (omega arith) (next-opens .0)) (bytesOf "9\tok\n") (rw (next-opens .0) refl)
 
 none-left : orderCall gateway (nextState .phase) [] 0 0 0 .reply ≡ Refused NoLine
 unfolding
@@ -384,7 +409,7 @@ none-left = refl
 
 -- ---- a look-up
 abbrev findState : State
-findState = stateWith (openCall gateway 3 1 (ran .table) [] .phase) (ran .table) []
+findState = stateWith (openCall gateway 3 1 plain (ran .table) [] .phase) (ran .table) []
 
 abbrev findLines : List (List ℕ)
 findLines = closedLines ++ openLine 3 1 ∷ []
@@ -392,7 +417,7 @@ findLines = closedLines ++ openLine 3 1 ∷ []
 abbrev findOut : List ℕ
 findOut = closedOut ++ bytesOf "9\tok\n"
 
-find-opens : (openCall gateway 3 1 (ran .table) [] .reply ≡ Accepted) × (findState .phase .shut ≡ false) × (findState .phase .kind ≡ 3)
+find-opens : (openCall gateway 3 1 plain (ran .table) [] .reply ≡ Accepted) × (findState .phase .shut ≡ false) × (findState .phase .kind ≡ 3)
 unfolding
     laps deal dealTo isWellFormed rule settled absorbed insertStep meetsEmpty meetsKey first all some dist probe wrap count lineFault linesFault into descending
 find-opens = (refl, refl, refl)
@@ -403,7 +428,7 @@ not-put-in e = omega (arith, find-opens .2)
 find-lead : Leads findLines findState findOut
 unfolding bytesOf digitsOf digitsWithin
 find-lead = more closedLines closedState _ closed-lead (openLine 3 1) (plains .opens .1) _ refl
-    (sheet-promise .shut closedState (close-accepted .1) .opening 3 1 (omega arith) (omega arith)) (bytesOf "9\tok\n") (rw (find-opens .0) refl)
+    (sheet-promise .shut closedState (close-accepted .1) .opening 3 1 1 0 (omega arith) (omega arith) (omega arith) (omega arith) (find-opens .0)) (bytesOf "9\tok\n") (rw (find-opens .0) refl)
 
 finding : InOpen findState
 finding = sheet-promise .opened findState (find-opens .1)
@@ -443,12 +468,12 @@ refused-lead = more twoLines twoState _ two-lead (cellsLine 1) (plains .cells .1
     (sheet-promise .shut twoState refl .cells-refused 1 (omega arith) (λ (few, _). omega arith)) (bytesOf "4\trefused\t1\n") refl
 
 abbrev seekState : State
-seekState = stateWith (openCall gateway 3 1 (replicate 5 0) items .phase) (replicate 5 0) items
+seekState = stateWith (openCall gateway 3 1 plain (replicate 5 0) items .phase) (replicate 5 0) items
 
 abbrev soughtState : State
 soughtState = stateWith (closeCall gateway (seekState .phase) .phase) (replicate 5 0) items
 
-seek-opens : (openCall gateway 3 1 (replicate 5 0) items .reply ≡ Accepted) × (seekState .phase .kind ≡ 3)
+seek-opens : (openCall gateway 3 1 plain (replicate 5 0) items .reply ≡ Accepted) × (seekState .phase .kind ≡ 3)
 unfolding meetsEmpty meetsKey first all some dist probe wrap
 seek-opens = (refl, refl)
 
@@ -468,7 +493,7 @@ smallLines = soughtLines ++ cellsLine 2 ∷ []
 seek-lead : Leads seekLines seekState (bytesOf "1\tok\n2\tok\n3\tok\n4\trefused\t1\n5\tok\n")
 unfolding bytesOf digitsOf digitsWithin
 seek-lead = more refusedLines twoState _ refused-lead (openLine 3 1) (plains .opens .1) _ refl
-    (sheet-promise .shut twoState refl .opening 3 1 (omega arith) (omega arith)) (bytesOf "5\tok\n") (rw (seek-opens .0) refl)
+    (sheet-promise .shut twoState refl .opening 3 1 1 0 (omega arith) (omega arith) (omega arith) (omega arith) (seek-opens .0)) (bytesOf "5\tok\n") (rw (seek-opens .0) refl)
 
 sought-lead : Leads soughtLines soughtState (bytesOf "1\tok\n2\tok\n3\tok\n4\trefused\t1\n5\tok\n6\tok\n")
 unfolding bytesOf digitsOf digitsWithin
@@ -483,7 +508,7 @@ unfolding bytesOf digitsOf digitsWithin
 small-lead = more soughtLines soughtState _ sought-lead (cellsLine 2) (plains .cells .2) _ refl
     (sheet-promise .shut soughtState (seek-closes .1) .cells 2 (omega arith) (omega arith)) (bytesOf "7\tok\n") refl
 
-full : openCall gateway 1 2 (replicate 2 0) items .reply ≡ Refused Full
+full : openCall gateway 1 2 plain (replicate 2 0) items .reply ≡ Refused Full
 unfolding meetsEmpty meetsKey first all some dist probe wrap lineFault linesFault into descending
 full = refl
 
@@ -587,18 +612,24 @@ corollaries =
           (bytesOf "10\trefused\t15\n") (rw none-left refl) .prints;
       kept =
           more smallLines smallState _ small-lead (openLine 1 2) (plains .opens .0) _ refl
-          (sheet-promise .shut smallState (seek-closes .1) .opening 1 2 (omega arith) (omega arith)) (bytesOf "8\trefused\t9\n") (rw full refl) .prints;
+          (sheet-promise .shut smallState (seek-closes .1) .opening-refused 1 2 1 0 (omega arith) (omega arith) (omega arith) (omega arith) Full full) (bytesOf "8\trefused\t9\n") refl .prints;
       item-in-open =
           ended openLines openState openOut open-lead itemThree (plains .items .0) (running .item itemThree first-item)
           listLine (plains .others .3);
       past-items = past-all 1024 refl;
-      in-parts = feed-promise .parts (bytesOf "cel" ∷ bytesOf "ls\t5\nopen" ∷ [] ∷ bytesOf "\t1\t2\n" ∷ []) ∙ open-lead .prints;
+      in-parts = feed-promise .parts (bytesOf "cel" ∷ bytesOf "ls\t5\nopen" ∷ [] ∷ bytesOf "\t1\t2\t1\t0\n" ∷ []) ∙ open-lead .prints;
       idle-turn =
           more openLines openState openOut open-lead turnLine (plains .others .0) _ refl (sheet-promise .either openState .turn 1 (omega arith))
           (bytesOf "3\tidle\n") (rw worker-idle refl) .prints;
       fresh =
           more cellsLines withCells _ cells-lead listLine (plains .others .3) _ refl (sheet-promise .either withCells .list check-passes) _ refl .prints;
-      no-cells = more [] blank [] none (openLine 1 2) (plains .opens .0) _ refl (before .opening 1 2 (omega arith) (omega arith)) _ refl .prints;
+      spread-list =
+          more spreadLines spreadState _ spread-lead listLine (plains .others .3) _ refl (sheet-promise .either spreadState .list (spread-accepted .1)) _ refl
+          .prints;
+      even-refused =
+          more cellsLines withCells _ cells-lead (spreadLine 2 0) (spread-plain .1) _ refl
+          (sheet-promise .shut withCells refl .opening-refused 3 1 2 0 (omega arith) (omega arith) (omega arith) (omega arith) Even refl) _ refl .prints;
+      no-cells = more [] blank [] none (openLine 1 2) (plains .opens .0) _ refl (before .opening-refused 1 2 1 0 (omega arith) (omega arith) (omega arith) (omega arith) Size refl) _ refl .prints;
       order-in-shut = more [] blank [] none brokenOrder (plains .broken .0) _ refl (before .order brokenOrder first-order) _ refl .prints;
       unreadable = ended [] blank [] none zeroLine zero-plain zero-bad listLine (plains .others .3);
       above = ended [] blank [] none aboveLine above-plain above-bad listLine (plains .others .3);

@@ -2,11 +2,11 @@
 use mathlib.Core.Path.{_≡_, refl, sym, ap, _∙_}
 use mathlib.Core.Logic.{_≢_}
 use mathlib.Core.Bool.{Bool, true, false}
-use mathlib.Core.List.{List, [], _∷_, _++_}
+use mathlib.Core.List.{List, [], _∷_, _++_, map}
 use Prim.Native.Nat.{ℕ, zero, suc, _≤_, _<_}
 use native.Mathlib.Omega.{arith}
 use lib.Dec.{eqb}
-use lib.ListN.{length, getD, length-append}
+use lib.ListN.{length, getD, drop, length-append}
 use lib.Seq.{getD-at}
 use borrow.Author.Tests.{eqb-true, ne-eqb, lt-ltb, le-ltb}
 use Rattle.text.specs.Bytes.{same, bytesOf}
@@ -15,22 +15,20 @@ use Rattle.text.specs.Numbers.{digits, leads, valueFrom, isNumber}
 use Rattle.text.proofs.Test.{by-test, by-lt, true-false, both-true}
 use Rattle.orders.specs.declared.Order.{Order}
 use Rattle.orders.specs.Orders.{blank}
-use Rattle.lines.specs.Grammar.{wordOf, known, commandIn, mostNumbers, numbered, areNumbers, numbersOf, readingOf}
+use Rattle.lines.specs.Grammar.{wordOf, known, commandIn, numbered, areNumbers, numbersOf, readingOf}
 use Rattle.lines.specs.declared.Command.{Command}
 use Rattle.lines.specs.declared.Line.{Line}
-use Rattle.lines.proofs.Lists.{numbers-in}
 use Rattle.lines.proofs.Words.{same-word}
 use Rattle.lines.proofs.Theorem.{lines-promise}
 use Rattle.fitting.specs.Examples.{Tried, lines, AsTried, AllAsTried}
 use Rattle.fitting.specs.Fitting.{mostItems, orderNumbers, itemHandling, rowOf, fitsRow, handlingIn, handled, readingIn, aimOf}
-use Rattle.fitting.specs.Promise.{Fitted, lineWith, Itemed, Ordered, Placed, FittingPromise}
+use Rattle.fitting.specs.Promise.{Fitted, lineWith, Opened, Itemed, Ordered, Placed, FittingPromise}
 use Rattle.fitting.specs.declared.Handling.{Handling}
 use Rattle.fitting.specs.declared.Handling.the-variants.{Performed, Refused, Barred, Bad}
 use Rattle.fitting.specs.declared.Reading.{Reading}
 use Rattle.fitting.specs.declared.Task.{Task}
 use Rattle.fitting.proofs.Fitting.{handled-performed, performs}
 
-infixr 2 _also_
 -- what is carried out fits its row
 handled-fits : (h : Handling) (f : Bool) (d c : Command) → handled h f d ≡ Reading.Todo (Task.Perform c) → f ≡ true
 handled-fits Performed true d c e = refl
@@ -97,6 +95,10 @@ open-kept k c e x = by-test (same (wordOf (x .command)) (wordOf Command.Item))
     (λ t. let i = same-word (x .command) Command.Item t in item-open k c x i ∙ sym (item-open k e x i))
     (λ t. no-item k c e false x (λ i. true-false (rw i at t)))
 
+-- ---- an opening
+open-open : (k c : ℕ) (x : Line) → x .command ≡ Command.Open → readingIn k c false x ≡ Reading.Bad
+open-open k c x e = rw e
+
 -- ---- a line that is carried out
 not-bad : Bad ≡ Performed → ⊥
 not-bad e = let z : _≡_ {A = ℕ} 0 1 = cc in omega arith
@@ -104,6 +106,10 @@ not-bad e = let z : _≡_ {A = ℕ} 0 1 = cc in omega arith
 item-performed : (c : ℕ) (shut : Bool) → handlingIn shut (rowOf 1 c Command.Item) ≡ Performed → (shut ≡ true) × (c < mostItems)
 item-performed c true h = by-lt c mostItems (λ l. (refl, l)) (λ l. absurd (not-bad (sym (no-room c l) ∙ h)))
 item-performed c false h = absurd (not-bad h)
+
+open-performed : (shut : Bool) → handlingIn shut (rowOf 1 0 Command.Open) ≡ Performed → shut ≡ true
+open-performed true h = refl
+open-performed false h = absurd (not-bad h)
 
 fitted : (k c : ℕ) (shut : Bool) (l : List ℕ) (d : Command) → readingIn k c shut (readingOf l) ≡ Reading.Todo (Task.Perform d) → Fitted k c shut l d
 fitted k c shut l d e =
@@ -121,16 +127,17 @@ fitted k c shut l d e =
       canonical = lines-promise .reading l .canonical (both .0);
       placed = λ o q. counted ∙ rw (o, q);
       named = λ o q. counted ∙ rw (o, other-kind k q);
+      opens = λ o. counted ∙ rw o;
+      opens-shut = λ o. open-performed shut (rw o at does);
       item = λ i. counted ∙ rw i;
       item-shut = λ i. item-performed c shut (rw i at does) .0;
       item-room = λ i. item-performed c shut (rw i at does) .1;
     }
 
 -- ---- a line of a command and so many numbers
-line-read : (d : Command) → known d ≡ true → (ns : List ℕ) → length ns ≤ mostNumbers → ((i : ℕ) → getD ns i 0 ≤ 4294967295)
+line-read : (d : Command) → known d ≡ true → (ns : List ℕ) → length ns ≤ 4 → ((i : ℕ) → getD ns i 0 ≤ 4294967295)
     → lineWith d ns ≡ record { command = d; numbers = numbered ns }
-line-read d k ns few range = lines-promise .read-back (record { command = d; numbers = numbered ns })
-    (record { command = k; few = few; range = rw (numbers-in ns) range; zeros = rw (numbers-in ns) })
+line-read d k ns few range = lines-promise .read-back _ (lines-promise .has-writing d ns k few range)
 
 in-range : (n : ℕ) → n ≤ 4294967295 → (ns : List ℕ) → ((i : ℕ) → getD ns i 0 ≤ 4294967295) → (i : ℕ) → getD (n ∷ ns) i 0 ≤ 4294967295
 in-range n h ns r zero = h
@@ -138,6 +145,17 @@ in-range n h ns r (suc i) = r i
 
 none : (i : ℕ) → getD [] i 0 ≤ 4294967295
 none i = omega arith
+
+module _ (k m a b : ℕ) (x : k ≤ 4294967295) (y : m ≤ 4294967295) (z : a ≤ 4294967295) (u : b ≤ 4294967295) where
+  open-line : lineWith Command.Open (k ∷ m ∷ a ∷ b ∷ []) ≡ record { command = Command.Open; numbers = numbered (k ∷ m ∷ a ∷ b ∷ []) }
+  open-line = line-read Command.Open refl (k ∷ m ∷ a ∷ b ∷ []) (omega arith)
+      (in-range k x (m ∷ a ∷ b ∷ []) (in-range m y (a ∷ b ∷ []) (in-range a z (b ∷ []) (in-range b u [] none))))
+
+  opened : Opened k m a b
+  opened = record {
+    taken = λ before c. rw open-line;
+    numbers = rw open-line;
+  }
 
 module _ (w v p : ℕ) (a : w ≤ 4294967295) (b : v ≤ 4294967295) (c : p ≤ 4294967295) where
   item-line : lineWith Command.Item (w ∷ v ∷ p ∷ []) ≡ record { command = Command.Item; numbers = numbered (w ∷ v ∷ p ∷ []) }
@@ -177,50 +195,46 @@ module _ (i : ℕ) (a : i ≤ 4294967295) where
   }
 
 -- ---- the lines tried, computed for one of the other kinds, and for no items and as many as are kept
-abbrev said : (k c : ℕ) → Bool → Tried → Reading
-said k c shut t = readingIn k c shut (readingOf (bytesOf (t .line)))
+-- shut with room and without, open for put-in and for another kind: the line is read once for all four
+abbrev Answers : Type 0
+Answers = Reading × Reading × Reading × Reading
 
--- both, without brackets
-_also_ : {A B : Type 0} → A → B → A × B
-a also b = (a, b)
+abbrev said : ℕ → Tried → Answers
+said k t =
+    let x = readingOf (bytesOf (t .line)) in
+    (readingIn k 0 true x, readingIn k mostItems true x, readingIn 1 0 false x, readingIn 2 0 false x)
 
-one : (t : Tried) → ((k : ℕ) → said k 0 true t ≡ t .shut) → ((k : ℕ) → said k mostItems true t ≡ t .full)
-    → said 1 0 false t ≡ t .insert → said 2 0 false t ≡ t .other → AsTried t
-one t a f b o =
+-- what the table says of it
+abbrev due : Tried → Answers
+due t = (t .shut, t .full, t .insert, t .other)
+
+one : (t : Tried) → ((k : ℕ) → said k t ≡ due t) → AsTried t
+one t h =
     let x = readingOf (bytesOf (t .line)) in
     record {
-      shut = λ k c h. same-kept k c 0 true x (λ i. room-left c h) ∙ a k;
-      full = λ k c h. same-kept k c mostItems true x (λ i. no-room c h) ∙ f k;
-      insert = λ c. open-kept 1 c 0 x ∙ b;
-      other = λ k c h. same-reading k h c false x ∙ open-kept 2 c 0 x ∙ o;
+      shut = λ k c l. same-kept k c 0 true x (λ i. room-left c l) ∙ ap (λ (a : Answers). a .0) (h k);
+      full = λ k c l. same-kept k c mostItems true x (λ i. no-room c l) ∙ ap (λ (a : Answers). a .1) (h k);
+      insert = λ c. open-kept 1 c 0 x ∙ ap (λ (a : Answers). a .2) (h 1);
+      other = λ k c n. same-reading k n c false x ∙ open-kept 2 c 0 x ∙ ap (λ (a : Answers). a .3) (h 2);
     }
+
+-- both computed for the whole table
+each : (ts : List Tried) → ((k : ℕ) → map (said k) ts ≡ map due ts) → AllAsTried ts
+each [] h = tt
+each (t ∷ ts) h = (one t (λ k. ap (λ (l : List Answers). getD l 0 (due t)) (h k)), each ts (λ k. ap (drop 1) (h k)))
 
 as-tried : AllAsTried lines
 unfolding bytesOf readingOf commandIn same numbersOf areNumbers isNumber valueFrom leads digits fieldsOf
-as-tried =
-    one _ (λ k. refl) (λ k. refl) refl refl also one _ (λ k. refl) (λ k. refl) refl refl also one _ (λ k. refl) (λ k. refl) refl refl
-    also one _ (λ k. refl) (λ k. refl) refl refl also one _ (λ k. refl) (λ k. refl) refl refl also one _ (λ k. refl) (λ k. refl) refl refl
-    also one _ (λ k. refl) (λ k. refl) refl refl also one _ (λ k. refl) (λ k. refl) refl refl also one _ (λ k. refl) (λ k. refl) refl refl
-    also one _ (λ k. refl) (λ k. refl) refl refl also one _ (λ k. refl) (λ k. refl) refl refl also one _ (λ k. refl) (λ k. refl) refl refl
-    also one _ (λ k. refl) (λ k. refl) refl refl also one _ (λ k. refl) (λ k. refl) refl refl also one _ (λ k. refl) (λ k. refl) refl refl
-    also one _ (λ k. refl) (λ k. refl) refl refl also one _ (λ k. refl) (λ k. refl) refl refl also one _ (λ k. refl) (λ k. refl) refl refl
-    also one _ (λ k. refl) (λ k. refl) refl refl also one _ (λ k. refl) (λ k. refl) refl refl also one _ (λ k. refl) (λ k. refl) refl refl
-    also one _ (λ k. refl) (λ k. refl) refl refl also one _ (λ k. refl) (λ k. refl) refl refl also one _ (λ k. refl) (λ k. refl) refl refl
-    also one _ (λ k. refl) (λ k. refl) refl refl also one _ (λ k. refl) (λ k. refl) refl refl also one _ (λ k. refl) (λ k. refl) refl refl
-    also one _ (λ k. refl) (λ k. refl) refl refl also one _ (λ k. refl) (λ k. refl) refl refl also one _ (λ k. refl) (λ k. refl) refl refl
-    also one _ (λ k. refl) (λ k. refl) refl refl also one _ (λ k. refl) (λ k. refl) refl refl also one _ (λ k. refl) (λ k. refl) refl refl
-    also one _ (λ k. refl) (λ k. refl) refl refl also one _ (λ k. refl) (λ k. refl) refl refl also one _ (λ k. refl) (λ k. refl) refl refl
-    also one _ (λ k. refl) (λ k. refl) refl refl also one _ (λ k. refl) (λ k. refl) refl refl also one _ (λ k. refl) (λ k. refl) refl refl
-    also one _ (λ k. refl) (λ k. refl) refl refl also one _ (λ k. refl) (λ k. refl) refl refl also one _ (λ k. refl) (λ k. refl) refl refl
-    also one _ (λ k. refl) (λ k. refl) refl refl also one _ (λ k. refl) (λ k. refl) refl refl also one _ (λ k. refl) (λ k. refl) refl refl
-    also one _ (λ k. refl) (λ k. refl) refl refl also tt
+as-tried = each lines (λ k. refl)
 
 pub fitting-promise : FittingPromise
 fitting-promise = record {
   fitted = fitted;
+  opened = opened;
   itemed = itemed;
   ordered = ordered;
   placed = placed;
+  open-open = open-open;
   item-open = item-open;
   item-full = item-full;
   no-item = no-item;

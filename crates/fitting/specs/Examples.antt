@@ -1,5 +1,5 @@
 -- Lines as they are written, with what is done with each in a shut shift with fewer than 1,024 items and with so many, in an open put-in shift and in an open
--- shift of another kind (document 01, "The shift sheet", and document 02, points 1 and 2).
+-- shift of another kind (document 01, "The shift sheet", and document 02, points 1, 2 and 6).
 use mathlib.Core.Path.{_≡_}
 use mathlib.Core.Logic.{_≢_}
 use mathlib.Core.Bool.{true, false}
@@ -47,11 +47,15 @@ abbrev pub lines : List Tried
 lines =
     -- carried out, refused with 11, or bad
     alike "cells\t2" (does Command.Cells) Bad
-    ∷ alike "open\t1\t2" (does Command.Open) Bad
     ∷ alike "turn\t0" (does Command.Turn) (does Command.Turn)
     ∷ alike "run" (Todo Refuse) (does Command.Run)
     ∷ alike "close" (does Command.Close) (does Command.Close)
     ∷ alike "list" (does Command.List) (does Command.List)
+    -- an opening: kind, count, a and b; that they are sensible, and a is odd, is asked when the shift opens
+    ∷ alike "open\t1\t2\t1\t0" (does Command.Open) Bad
+    ∷ alike "open\t3\t16\t2654435769\t97" (does Command.Open) Bad
+    ∷ alike "open\t0\t0\t0\t0" (does Command.Open) Bad
+    ∷ alike "open\t4294967295\t4294967295\t4294967295\t4294967295" (does Command.Open) Bad
     -- an item: worker, label and price; that they are sensible is asked when the shift opens
     ∷ item "item\t0\t5\t1" (does Command.Item)
     ∷ item "item\t0\t0\t0" (does Command.Item)
@@ -65,18 +69,31 @@ lines =
     -- other numbers than the command takes
     ∷ alike "cells" Bad Bad
     ∷ alike "cells\t2\t2" Bad Bad
+    ∷ alike "cells\t2\t2\t2\t2" Bad Bad
+    ∷ alike "open" Bad Bad
     ∷ alike "open\t1" Bad Bad
-    ∷ alike "open\t1\t2\t3" Bad Bad
+    ∷ alike "open\t1\t2" Bad Bad
+    ∷ alike "open\t1\t2\t1" Bad Bad
+    ∷ alike "open\t1\t2\t1\t0\t0" Bad Bad
     ∷ alike "item" Bad Bad
     ∷ alike "item\t0\t5" Bad Bad
     ∷ alike "item\t0\t5\t1\t1" Bad Bad
+    ∷ alike "item\t0\t5\t1\t1\t1" Bad Bad
     ∷ alike "turn" Bad Bad
     ∷ alike "turn\t0\t0" Bad Bad
     ∷ alike "turn\t0\t5\t1" Bad Bad
+    ∷ alike "turn\t0\t0\t0\t0\t0" Bad Bad
     ∷ alike "run\t0" Bad Bad
     ∷ alike "close\t0" Bad Bad
     ∷ alike "list\t0" Bad Bad
     -- numbers that are not readable
+    ∷ alike "open\t1\t2\t01\t0" Bad Bad
+    ∷ alike "open\t1\t2\t1\t00" Bad Bad
+    ∷ alike "open\t1\t2\t4294967296\t0" Bad Bad
+    ∷ alike "open\t1\t2\t1\t4294967296" Bad Bad
+    ∷ alike "open\t1\t2\t\t0" Bad Bad
+    ∷ alike "open\t1\t2\t1\t" Bad Bad
+    ∷ alike "open\t1\t2\t-1\t0" Bad Bad
     ∷ alike "item\t0\t5\t01" Bad Bad
     ∷ alike "item\t00\t5\t1" Bad Bad
     ∷ alike "item\t0\t5\t4294967296" Bad Bad
@@ -84,6 +101,8 @@ lines =
     -- every line whose first field is `order`
     ∷ alike "order" (Todo Refuse) Bad
     ∷ alike "order\t0\t5\t1\t1" (Todo Refuse) Bad
+    ∷ alike "order\t0\t5\t1\t1\t1" (Todo Refuse) Bad
+    ∷ alike "order\t4294967295\t4294967295\t4294967295\t4294967295" (Todo Refuse) Bad
     ∷ alike "order\t0\t" (Todo Refuse) Bad
     ∷ alike "order\t00" (Todo Refuse) Bad
     ∷ alike "order\t0\t05" (Todo Refuse) Bad
@@ -96,6 +115,8 @@ lines =
     ∷ alike "orders\t0\t5" Bad Bad
     ∷ alike "Order\t0\t5" Bad Bad
     ∷ alike " order\t0\t5" Bad Bad
+    ∷ alike "opens\t1\t2\t1\t0" Bad Bad
+    ∷ alike "Open\t1\t2\t1\t0" Bad Bad
     ∷ alike "items\t0\t5\t1" Bad Bad
     ∷ alike "Item\t0\t5\t1" Bad Bad
     ∷ []

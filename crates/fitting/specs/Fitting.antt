@@ -1,5 +1,5 @@
--- Fitting a line to the phase (document 01, "The shift sheet"; document 02, point 2): one row a command says how many numbers it takes and what is done with
--- it.
+-- Fitting a line to the phase (document 01, "The shift sheet"; document 02, points 2 and 6): one row a command says how many numbers it takes and what is done
+-- with it.
 use mathlib.Core.Bool.{Bool, true, _&&_, cond}
 use mathlib.Core.List.{List}
 use Prim.Native.Nat.{ℕ, _+_, _≤_}
@@ -50,7 +50,7 @@ itemHandling c = cond (ltb c mostItems) Performed Bad
 -- first field is `order` are refused; in an open phase `cells`, `open` and `item` are bad
 abbrev pub rowOf : (k c : ℕ) → Command → Row
 rowOf k c Command.Cells = rowWith 1 Performed Bad single.Neither
-rowOf k c Command.Open = rowWith 2 Performed Bad single.Neither
+rowOf k c Command.Open = rowWith 4 Performed Bad single.Neither
 rowOf k c Command.Item = rowWith 3 (itemHandling c) Bad single.Neither
 rowOf k c Command.Order = rowWith (orderNumbers k) Barred Performed single.Order
 rowOf k c Command.Turn = rowWith 1 Performed Performed single.Turn
@@ -79,10 +79,10 @@ abbrev pub readingIn : (k c : ℕ) → Bool → Line → Reading
 readingIn k c shut l = handled (handlingIn shut (rowOf k c (l .command))) (fitsRow (rowOf k c (l .command)) (l .numbers)) (l .command)
 
 -- ---- to whom a line is: a worker that an open phase of m workers has, or anything else
--- the order that an order line with the numbers a and b names: in a put-in shift the one at place a of the list os, in the others worker a and label b,
--- without a price
-abbrev pub orderNamed : (k a b : ℕ) → List Order → Found
-orderNamed k a b os = cond (eqb k 1) (lineAt os a) (record { there = true; order = orderWith b 0 a })
+-- the order that an order line with these two numbers names: in a put-in shift the one at place i of the list os, in the others label v to worker i, without
+-- a price
+abbrev pub orderNamed : (k i v : ℕ) → List Order → Found
+orderNamed k i v os = cond (eqb k 1) (lineAt os i) (record { there = true; order = orderWith v 0 i })
 
 abbrev pub orderAim : Found → ℕ → Aim
 orderAim f m = cond (f .there && ltb (f .order .worker) m) (Aim.Order (f .order .worker) (f .order .key) (f .order .price)) Aim.Other

@@ -25,6 +25,9 @@ pub record Fitted (k c : ℕ) (shut : Bool) (l : List ℕ) (d : Command) : Type 
   -- an order has a place in the list in a put-in shift, worker and label in the others
   pub placed : d ≡ Command.Order → k ≡ 1 → readingOf l .numbers .count ≡ 1
   pub named : d ≡ Command.Order → k ≢ 1 → readingOf l .numbers .count ≡ 2
+  -- an opening has kind, count, a and b, and stands in a shut shift
+  pub opens : d ≡ Command.Open → readingOf l .numbers .count ≡ 4
+  pub opens-shut : d ≡ Command.Open → shut ≡ true
   -- an item has worker, label and price, stands in a shut shift, and is the 1,024th at most
   pub item : d ≡ Command.Item → readingOf l .numbers .count ≡ 3
   pub item-shut : d ≡ Command.Item → shut ≡ true
@@ -34,10 +37,16 @@ pub record Fitted (k c : ℕ) (shut : Bool) (l : List ℕ) (d : Command) : Type 
 abbrev pub lineWith : Command → List ℕ → Line
 lineWith d ns = readingOf (textOf (record { command = d; numbers = numbered ns }))
 
--- worker w, label v and price p on an item line in a shut shift of any kind: the line is carried out with just these numbers, unless 1,024 are kept
+-- kind k, count m, a and b on an open line in a shut shift, of whatever kind it was and with any items kept: the line is carried out with just these numbers
+pub record Opened (k m a b : ℕ) : Type 0 where
+  pub taken : (before c : ℕ) → readingIn before c true (lineWith Command.Open (k ∷ m ∷ a ∷ b ∷ [])) ≡ Todo (Perform Command.Open)
+  pub numbers : lineWith Command.Open (k ∷ m ∷ a ∷ b ∷ []) .numbers .values ≡ k ∷ m ∷ a ∷ b ∷ []
+
+-- worker w, label v and price p on an item line in a shut shift of any kind: the line is carried out with just these numbers and a zero behind them, unless
+-- 1,024 are kept
 pub record Itemed (w v p : ℕ) : Type 0 where
   pub taken : (k c : ℕ) → c < 1024 → readingIn k c true (lineWith Command.Item (w ∷ v ∷ p ∷ [])) ≡ Todo (Perform Command.Item)
-  pub numbers : lineWith Command.Item (w ∷ v ∷ p ∷ []) .numbers .values ≡ w ∷ v ∷ p ∷ []
+  pub numbers : lineWith Command.Item (w ∷ v ∷ p ∷ []) .numbers .values ≡ w ∷ v ∷ p ∷ 0 ∷ []
 
 -- worker w and label v on an order line in an open look-up or take-out shift: the line is carried out, and where the shift has so many workers that w is one
 -- of them, it is an order of just these numbers, with 0 for the price
@@ -60,9 +69,12 @@ pub record Placed (i : ℕ) : Type 0 where
 
 pub record FittingPromise : Type 0 where
   pub fitted : (k c : ℕ) (shut : Bool) (l : List ℕ) (d : Command) → readingIn k c shut (readingOf l) ≡ Todo (Perform d) → Fitted k c shut l d
+  pub opened : (k m a b : ℕ) → k ≤ 4294967295 → m ≤ 4294967295 → a ≤ 4294967295 → b ≤ 4294967295 → Opened k m a b
   pub itemed : (w v p : ℕ) → w ≤ 4294967295 → v ≤ 4294967295 → p ≤ 4294967295 → Itemed w v p
   pub ordered : (w v : ℕ) → w ≤ 4294967295 → v ≤ 4294967295 → Ordered w v
   pub placed : (i : ℕ) → i ≤ 4294967295 → Placed i
+  -- every open line is bad in an open shift
+  pub open-open : (k c : ℕ) (x : Line) → x .command ≡ Command.Open → readingIn k c false x ≡ Bad
   -- every item line is bad in an open shift, and in any shift once 1,024 are kept
   pub item-open : (k c : ℕ) (x : Line) → x .command ≡ Command.Item → readingIn k c false x ≡ Bad
   pub item-full : (k c : ℕ) (shut : Bool) (x : Line) → x .command ≡ Command.Item → 1024 ≤ c → readingIn k c shut x ≡ Bad

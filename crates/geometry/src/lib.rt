@@ -1,8 +1,7 @@
-// The ring of cells: the neighbours of a cell, distances, and the one place where a key's home is computed.
+// The ring of cells: the neighbours of a cell, and distances.
 ghost use mathlib.Core.Path.{_≡_};
 ghost use Prim.Native.Nat.{_<_};
 ghost use Rattle.ring.specs.Ring;
-ghost use Rattle.layout.specs.Home.{modulo};
 
 // The cell after `cell`.
 pub fn next(length: u32, cell: u32) -> u32
@@ -30,12 +29,4 @@ pub fn dist(length: u32, from: u32, to: u32) -> u32
     } else {
         length - (from - to)
     }
-}
-
-// The home of a key in a table of `length` cells.
-pub fn home(length: u32, key: u32) -> u32
-    requires { ⌜ 0 < length ⌝ }
-    ensures { λ r. ⌜ r ≡ modulo length key ⌝ }
-{
-    key % length
 }

@@ -14,6 +14,7 @@ use Rattle.ring.proofs.Tests.{true-says}
 use Rattle.layout.specs.Layout.{In, size}
 use Rattle.layout.specs.Sound.{Ordered}
 use Rattle.layout.proofs.Sets.{in-append}
+use Rattle.homes.specs.declared.Hash.{Hash}
 use Rattle.prices.specs.Contents.{label, cellOk, SoundTable}
 use Rattle.prices.specs.Priced.{labels, Least, SameLeast, pricedLayout, withoutLabels}
 use Rattle.prices.proofs.Contents.{contents}
@@ -68,7 +69,7 @@ key-in (o ∷ os) (suc i) l = inr (key-in os i (omega arith))
 kinds : (k : ℕ) → Kind k → (k ≡ 1) ⊎ (k ≡ 2) ⊎ (k ≡ 3)
 kinds k e = by-kinds k e inl (λ is. inr (inl is)) (λ is. inr (inr is))
 
-module _ (k n m : ℕ) (home : ℕ → ℕ) (hb : (x : ℕ) → home x < n) (t : List ℕ) (ok : SoundTable n home t) (kind : Kind k) where
+module _ (k n m : ℕ) (ab : Hash) (home : ℕ → ℕ) (hb : (x : ℕ) → home x < n) (t : List ℕ) (ok : SoundTable n home t) (kind : Kind k) where
   rules : Rules n label home
   rules = record { blank = refl; inside = hb }
 
@@ -90,18 +91,18 @@ module _ (k n m : ℕ) (home : ℕ → ℕ) (hb : (x : ℕ) → home x < n) (t :
 
   module _ (os : List Order) (room : k ≡ 1 → size (labels label t ++ orderKeys os) < n) where
     -- the accepted orders leave room, however often a line is given
-    roomy : (s : History) (r : Run) → Shows k n m s r → Taken k os s → k ≡ 1 → Roomy n label t r
+    roomy : (s : History) (r : Run) → Shows k n m ab s r → Taken k os s → k ≡ 1 → Roomy n label t r
     roomy s r h b is = room-by n label t (orderKeys os) r (room is)
         (λ v i. let o = b .lines is v (rw (h .ordered) i) in rw (o .is) (key-in os (o .line) (o .inside)))
 
     -- and have prices that a label can have
-    pub known : (es : List Event) (s : History) → Shows k n m s (events.after k n m label home t es) → Taken k os s
+    pub known : (es : List Event) (s : History) → Shows k n m ab s (events.after k n m label home t es) → Taken k os s
         → Known k n m home t (events.after k n m label home t es)
     known es s h b = known-of es (roomy s (events.after k n m label home t es) h b)
         (λ is v i. let (low, high) = b .entries v (rw (h .ordered) i) .priced is in price-ok _ low high)
 
 -- ---- an insert phase: what stands in the table and what the workers carry
-module _ (k n m : ℕ) (home : ℕ → ℕ) (t : List ℕ) (s : History) (r : Run) (h : Shows k n m s r) (o : Carries n label home t r) where
+module _ (k n m : ℕ) (ab : Hash) (home : ℕ → ℕ) (t : List ℕ) (s : History) (r : Run) (h : Shows k n m ab s r) (o : Carries n label home t r) where
   pub ordering : Ordered n home (labels label (s .table))
   ordering = rw (h .table) (o .ordering)
 
@@ -150,8 +151,8 @@ module _ (k n m : ℕ) (home : ℕ → ℕ) (t : List ℕ) (s : History) (r : Ru
       )
 
 -- ---- said of a history that shows the run
-module _ (k n m : ℕ) (home : ℕ → ℕ) (hb : (x : ℕ) → home x < n) (t : List ℕ) (ok : SoundTable n home t) (kind : Kind k)
-    (s : History) (r : Run) (h : Shows k n m s r) (g : Known k n m home t r) where
+module _ (k n m : ℕ) (ab : Hash) (home : ℕ → ℕ) (hb : (x : ℕ) → home x < n) (t : List ℕ) (ok : SoundTable n home t) (kind : Kind k)
+    (s : History) (r : Run) (h : Shows k n m ab s r) (g : Known k n m home t r) where
   -- ---- a closed phase has come to rest
   pub closed : s .closed ≡ true → s .table ≡ pricedLayout n label home (entriesAfter k (s .ordered) t)
   closed c = rw (h .table, h .ordered)
@@ -191,8 +192,8 @@ module _ (k n m : ℕ) (home : ℕ → ℕ) (hb : (x : ℕ) → home x < n) (t :
   pub bounded : s .counted < mostSteps n m (length (s .ordered))
   bounded = rw (h .counted, h .ordered) (g .always .bounded)
 
-  pub as-opened : AsOpened k n m s
-  as-opened = record { kind = h .kind; cells = h .cells; crew = h .count; sized = rw (h .table) (g .always .sized) }
+  pub as-opened : AsOpened k n m ab s
+  as-opened = record { kind = h .kind; cells = h .cells; crew = h .count; hash = h .hash; sized = rw (h .table) (g .always .sized) }
 
   -- a good line is accepted if its worker is idle
   pub accepts : (M : Model) → Size M n → Crew M m → (os : List Order) → (k ≡ 1 → (i : ℕ) → i < length os → Good m (getD os i blank))

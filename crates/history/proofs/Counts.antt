@@ -9,6 +9,7 @@ use lib.ListN.{getD}
 use borrow.Author.Tests.{lt-ltb}
 use Rattle.ring.specs.Counting.{bit, count}
 use Rattle.ring.proofs.Split.{by-eq}
+use Rattle.homes.specs.declared.Hash.{Hash}
 use Rattle.prices.specs.Contents.{label}
 use Rattle.orders.specs.Orders.{lineAt}
 use Rattle.orders.specs.declared.Order.{Order}
@@ -44,8 +45,8 @@ turn-adds : (w : ℕ) (t : List ℕ) (p : Phase) (r : TurnReply) (s : History)
 turn-adds w t p (turnReply.Answered a) s h = omega (arith, worked-says a (getD (s .pending) w 0) (h a refl))
 turn-adds w t p (turnReply.Refused r) s h = omega arith
 
-module _ (M : Model) (os : List Order) (k n m : ℕ) where
-  turn-counts : (w : ℕ) (s : History) (r : Run) → Shows k n m s r
+module _ (M : Model) (os : List Order) (k n m : ℕ) (ab : Hash) where
+  turn-counts : (w : ℕ) (s : History) (r : Run) → Shows k n m ab s r
       → call M os (turn w) s .counted ≡ bit (worked (turnCall M (s .phase) (s .table) w .reply)) + s .counted
   unfolding call
   turn-counts w s r h =
@@ -66,21 +67,21 @@ module _ (M : Model) (os : List Order) (k n m : ℕ) where
   abbrev Counts : List Call → History → Type 0
   Counts cs s = run M os cs s .counted ≡ count worked (turnReplies M os cs s) + s .counted
 
-  one-more : (c : Call) (cs : List Call) (s : History) (r : Run) → Shows k n m s r → Counts cs (call M os c s) → Counts (c ∷ cs) s
+  one-more : (c : Call) (cs : List Call) (s : History) (r : Run) → Shows k n m ab s r → Counts cs (call M os c s) → Counts (c ∷ cs) s
   unfolding run turnReplies count
   one-more (order i w v) cs s r h e = omega (arith, order-counts i w v s)
   one-more (turn w) cs s r h e = omega (arith, turn-counts w s r h)
   one-more close cs s r h e = omega (arith, close-counts s)
 
-  from : (cs : List Call) (s : History) (r : Run) → Shows k n m s r → Counts cs s
+  from : (cs : List Call) (s : History) (r : Run) → Shows k n m ab s r → Counts cs s
   unfolding run turnReplies count
   from [] s r h = omega arith
   from (c ∷ cs) s r h = one-more c cs s r h
       (⊎-elim
-      (λ (g : Shows k n m (call M os c s) r). from cs (call M os c s) r g)
-      (λ (g : (e : Event) × Shows k n m (call M os c s) (event k n label (M .home n) e r)). from cs (call M os c s) (event k n label (M .home n) (g .0) r) (g .1))
-      (follows M os k n m c s r h))
+      (λ (g : Shows k n m ab (call M os c s) r). from cs (call M os c s) r g)
+      (λ (g : (e : Event) × Shows k n m ab (call M os c s) (event k n label (M .home ab n) e r)). from cs (call M os c s) (event k n label (M .home ab n) (g .0) r) (g .1))
+      (follows M os k n m ab c s r h))
 
   -- from a history without counted turns on
-  pub counts : (cs : List Call) (s : History) (r : Run) → Shows k n m s r → s .counted ≡ 0 → run M os cs s .counted ≡ count worked (turnReplies M os cs s)
+  pub counts : (cs : List Call) (s : History) (r : Run) → Shows k n m ab s r → s .counted ≡ 0 → run M os cs s .counted ≡ count worked (turnReplies M os cs s)
   counts cs s r h none = omega (arith, from cs s r h)

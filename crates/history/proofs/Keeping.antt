@@ -45,7 +45,7 @@ close-table p Accepted s = refl
 close-table p (Refused r) s = refl
 
 -- the home rule gives a cell of the table
-pub call-keeps : (M : Model) (os : List Order) (c : Call) (s : History) → ((v : ℕ) → M .home (s .phase .length) v < s .phase .length)
+pub call-keeps : (M : Model) (os : List Order) (c : Call) (s : History) → ((v : ℕ) → M .home (s .phase .hash) (s .phase .length) v < s .phase .length)
     → WellFormed M (s .phase) → WellFormed M (call M os c s .phase)
 unfolding call
 call-keeps M os (order i w v) s at-home good =

@@ -14,13 +14,15 @@ use Rattle.protocol.specs.Calls.{closeReply, foundReply, turnCheck}
 use Rattle.protocol.specs.IsWellFormed.{isWellFormed}
 use Rattle.protocol.proofs.Chain.{by-reply}
 use Rattle.ring.proofs.Tests.{not-both, within-says}
+use Rattle.homes.specs.Homes.{plain}
+use Rattle.homes.specs.declared.Hash.{Hash}
 use Rattle.protocol.proofs.Opening.{fresh-resting, resting-formed}
 use Rattle.protocol.proofs.Theorem.{well-formed, order-passed, close-passed, turn-passed}
 use Rattle.history.specs.History.{Call, order, turn, close, History, call, run, opening}
 
 module _ (M : Model) (os : List Order) where
-  pub refused-phase : (k m : ℕ) (t : List ℕ) → openReply M k m t os ≢ Accepted → opening M k m t os .phase ≡ refusedPhase M
-  refused-phase k m t ne = by-reply (openReply M k m t os) (λ e. absurd (ne e)) (λ _ e. rw e)
+  pub refused-phase : (k m : ℕ) (ab : Hash) (t : List ℕ) → openReply M k m ab t os ≢ Accepted → opening M k m ab t os .phase ≡ refusedPhase M
+  refused-phase k m ab t ne = by-reply (openReply M k m ab t os) (λ e. absurd (ne e)) (λ _ e. rw e)
 
   shut-call : (c : Call) (s : History) → s .phase .shut ≡ true → call M os c s .phase ≡ s .phase
   unfolding call
@@ -40,4 +42,4 @@ pub refused-formed : (M : Model) → sizeOk M 2 ≡ true → crewOk M 1 ≡ true
 refused-formed M a b =
     let size = within-says (M .fewestCells) (M .mostCells) 2 .0 a in
     let crew = within-says (M .fewestWorkers) (M .mostWorkers) 1 .0 b in
-    well-formed M (refusedPhase M) .1 (resting-formed M 3 2 1 true (refusedPhase M) (omega arith) size crew (fresh-resting M 3 2 1 true))
+    well-formed M (refusedPhase M) .1 (resting-formed M 3 2 1 true plain (refusedPhase M) (omega arith) size crew (fresh-resting M 3 2 1 true plain))

@@ -8,6 +8,7 @@ use lib.Dec.{eqb}
 use lib.ListN.{length}
 use borrow.Author.Tests.{ne-eqb}
 use Rattle.ring.proofs.Split.{by-eq}
+use Rattle.homes.specs.declared.Hash.{Hash}
 use Rattle.prices.specs.Contents.{label}
 use Rattle.prices.specs.Priced.{SameLeast, pricedLayout}
 use Rattle.prices.proofs.Contents.{contents}
@@ -18,14 +19,15 @@ use Rattle.rule.specs.Events as events
 use Rattle.rule.specs.Events.{Run}
 use Rattle.phases.specs.Promise.{Carries, SameOrders}
 use Rattle.determinism.proofs.Theorem.{phases}
-use Rattle.state.specs.Model.{Model}
+use Rattle.state.specs.Model.{Model, gateway}
+use Rattle.state.proofs.Model.{gateway-proper}
 use Rattle.state.specs.Open.{refusedPhase}
 use Rattle.state.specs.declared.Phase.{Phase}
 use Rattle.state.specs.declared.Reply.the-variants.{Accepted}
 use Rattle.protocol.specs.Calls.{closeReply}
 use Rattle.protocol.proofs.Theorem.{open-passed}
 use Rattle.history.specs.History.{Call, order, turn, close, History, call, run, Lent, runLent, opening, after, afterLent}
-use Rattle.history.specs.Promise.{entriesAfter, HistoryPromise, AnyListsPromise, RefusedPromise, KeepsTablePromise, FixedPromise, OneTablePromise, TwoTurnsPromise}
+use Rattle.history.specs.Promise.{entriesAfter, HistoryPromise, AnyListsPromise, RefusedPromise, KeepsTablePromise, FixedPromise, OneTablePromise, GatewayOneTable, TwoTurnsPromise}
 use Rattle.history.proofs.Claim.{known, closed, cells, cheapest, remaining, formed, as-opened, bounded, accepts, ordering, prices, only, union, each}
 use Rattle.history.proofs.Counts.{counts}
 use Rattle.history.proofs.Opening.{homes, resting, opening-untouched, opening-taken, opening-shows}
@@ -37,43 +39,43 @@ use Rattle.history.proofs.Unordered.{run-untouched, close-accepted}
 
 -- ---- one list of calls
 pub history : HistoryPromise
-history M proper k m t os accepted cs =
+history M proper k m ab t os accepted cs =
     let n = length t in
-    let home = M .home n in
-    let hb = homes M proper k m t os accepted in
-    let q = open-passed M k m t os accepted in
+    let home = M .home ab n in
+    let hb = homes M proper k m ab t os accepted in
+    let q = open-passed M k m ab t os accepted in
     let ok = q .sound proper in
     let kind = q .kind in
-    let s = after M k m t os cs in
-    let start = opening-shows M proper k m t os accepted in
-    let (es, h) = simulates M k n m os cs (opening M k m t os) (events.opened m t) start in
+    let s = after M k m ab t os cs in
+    let start = opening-shows M proper k m ab t os accepted in
+    let (es, h) = simulates M k n m ab os cs (opening M k m ab t os) (events.opened m t) start in
     let r = events.after k n m label home t es in
-    let b = run-taken M k os cs (opening M k m t os) (opening-taken M proper k m t os accepted) in
-    let g = known k n m home hb t ok kind os (λ is. q .list is .room) es s h b in
+    let b = run-taken M k os cs (opening M k m ab t os) (opening-taken M proper k m ab t os accepted) in
+    let g = known k n m ab home hb t ok kind os (λ is. q .list is .room) es s h b in
     record {
-      closed = closed k n m home hb t ok kind s r h g;
+      closed = closed k n m ab home hb t ok kind s r h g;
       sound = λ c. rw (h .table, g .always .sized) (g .sound (h .rest c));
-      cells = cells k n m home hb t ok kind s r h g;
-      cheapest = cheapest k n m home hb t ok kind s r h g;
-      remaining = remaining k n m home hb t ok kind s r h g;
+      cells = cells k n m ab home hb t ok kind s r h g;
+      cheapest = cheapest k n m ab home hb t ok kind s r h g;
+      remaining = remaining k n m ab home hb t ok kind s r h g;
       shut = h .shut;
-      formed = formed k n m home hb t ok kind s r h g M (q .size) (q .crew);
-      numbers = as-opened k n m home hb t ok kind s r h g;
+      formed = formed k n m ab home hb t ok kind s r h g M (q .size) (q .crew);
+      numbers = as-opened k n m ab home hb t ok kind s r h g;
       unfinished = unfinished-says h;
-      counts = counts M os k n m cs (opening M k m t os) (events.opened m t) start refl;
-      bounded = bounded k n m home hb t ok kind s r h g;
+      counts = counts M os k n m ab cs (opening M k m ab t os) (events.opened m t) start refl;
+      bounded = bounded k n m ab home hb t ok kind s r h g;
       acceptable = b .entries;
       listed = b .lines;
-      accepts = accepts k n m home hb t ok kind s r h g M (q .size) (q .crew) os (λ is. q .list is .lines);
-      ordering = λ is. ordering k n m home t s r h (g .carries is);
-      union = λ is. union k n m home t s r h (g .carries is);
-      prices = λ is. prices k n m home t s r h (g .carries is);
-      only = λ is. only k n m home t s r h (g .carries is);
+      accepts = accepts k n m ab home hb t ok kind s r h g M (q .size) (q .crew) os (λ is. q .list is .lines);
+      ordering = λ is. ordering k n m ab home t s r h (g .carries is);
+      union = λ is. union k n m ab home t s r h (g .carries is);
+      prices = λ is. prices k n m ab home t s r h (g .carries is);
+      only = λ is. only k n m ab home t s r h (g .carries is);
       kept = λ is. rw (h .table, h .ordered) (g .deletes is .kept);
       none-new = λ is. rw (h .table) (g .deletes is .only);
       unchanged = λ is. h .table ∙ g .finds is .unchanged;
       right = λ is. rw (h .said is) (g .finds is .right);
-      each = each k n m home hb t ok kind s r h g;
+      each = each k n m ab home hb t ok kind s r h g;
     }
 
 -- ---- every order lent a list of its own
@@ -84,63 +86,63 @@ call-unread M os us (order i w v) s ne = rw (ne-eqb (s .phase .kind) 1 ne)
 call-unread M os us (turn w) s ne = refl
 call-unread M os us close s ne = refl
 
-run-unread : (M : Model) (k n m : ℕ) (os : List Order) → k ≢ 1 → (cs : List Lent) (s : History) (r : Run) → Shows k n m s r
+run-unread : (M : Model) (k n m : ℕ) (ab : Hash) (os : List Order) → k ≢ 1 → (cs : List Lent) (s : History) (r : Run) → Shows k n m ab s r
     → runLent M cs s ≡ run M os (map (λ (c : Lent). c .asks) cs) s
 unfolding run runLent
-run-unread M k n m os ne [] s r h = refl
-run-unread M k n m os ne (c ∷ cs) s r h =
+run-unread M k n m ab os ne [] s r h = refl
+run-unread M k n m ab os ne (c ∷ cs) s r h =
     let e : call M (c .list) (c .asks) s ≡ call M os (c .asks) s = call-unread M os (c .list) (c .asks) s (λ z. ne (sym (h .kind) ∙ z)) in
-    let (es, g) = simulates M k n m os (c .asks ∷ []) s r h in
+    let (es, g) = simulates M k n m ab os (c .asks ∷ []) s r h in
     ap (λ (x : History). runLent M cs x) e
-    ∙ run-unread M k n m os ne cs (call M os (c .asks) s) (events.run k n label (M .home n) es r) g
+    ∙ run-unread M k n m ab os ne cs (call M os (c .asks) s) (events.run k n label (M .home ab n) es r) g
 
 pub any-lists : AnyListsPromise
-any-lists M proper k m t os accepted cs =
+any-lists M proper k m ab t os accepted cs =
     let n = length t in
-    let home = M .home n in
-    let q = open-passed M k m t os accepted in
-    let start = opening-shows M proper k m t os accepted in
-    let (es, h) = simulates-lent M k n m cs (opening M k m t os) (events.opened m t) start in
-    let s = afterLent M k m t os cs in
+    let home = M .home ab n in
+    let q = open-passed M k m ab t os accepted in
+    let start = opening-shows M proper k m ab t os accepted in
+    let (es, h) = simulates-lent M k n m ab cs (opening M k m ab t os) (events.opened m t) start in
+    let s = afterLent M k m ab t os cs in
     let r = events.after k n m label home t es in
-    let p = phases n m label home (record { blank = refl; inside = homes M proper k m t os accepted }) t (contents .priced n home t (q .sound proper)) es in
+    let p = phases n m label home (record { blank = refl; inside = homes M proper k m ab t os accepted }) t (contents .priced n home t (q .sound proper)) es in
     let o : k ≡ 1 → Carries n label home t r = λ is. subst (λ (j : ℕ). Carries n label home t (events.after j n m label home t es)) (sym is) (p .carries) in
     record {
-      ordering = λ is. ordering k n m home t s r h (o is);
-      union = λ is. union k n m home t s r h (o is);
-      prices = λ is. prices k n m home t s r h (o is);
-      only = λ is. only k n m home t s r h (o is);
-      unread = λ ne. run-unread M k n m os ne cs (opening M k m t os) (events.opened m t) start;
+      ordering = λ is. ordering k n m ab home t s r h (o is);
+      union = λ is. union k n m ab home t s r h (o is);
+      prices = λ is. prices k n m ab home t s r h (o is);
+      only = λ is. only k n m ab home t s r h (o is);
+      unread = λ ne. run-unread M k n m ab os ne cs (opening M k m ab t os) (events.opened m t) start;
     }
 
 -- ---- a refused opening
 pub refused : RefusedPromise
-refused M k m t os no-opening cs =
-    let e : opening M k m t os .phase ≡ refusedPhase M = refused-phase M os k m t no-opening in
-    let kept : after M k m t os cs .phase ≡ refusedPhase M = shut-stays M os cs (opening M k m t os) (ap (λ (p : Phase). p .shut) e) ∙ e in
+refused M k m ab t os no-opening cs =
+    let e : opening M k m ab t os .phase ≡ refusedPhase M = refused-phase M os k m ab t no-opening in
+    let kept : after M k m ab t os cs .phase ≡ refusedPhase M = shut-stays M os cs (opening M k m ab t os) (ap (λ (p : Phase). p .shut) e) ∙ e in
     (kept, λ a b. rw kept (refused-formed M a b))
 
 -- ---- without orders
 pub keeps-table : KeepsTablePromise
 unfolding call run
-keeps-table M proper k m t os accepted =
-    let s = opening M k m t os in
-    let still = opening-untouched M proper k m t os accepted in
-    let r = resting M proper k m t os accepted in
-    let c : closeReply M (s .phase) ≡ Accepted = close-accepted M (s .phase) (history M proper k m t os accepted [] .formed) (r .shut) (r .rest) in
+keeps-table M proper k m ab t os accepted =
+    let s = opening M k m ab t os in
+    let still = opening-untouched M proper k m ab t os accepted in
+    let r = resting M proper k m ab t os accepted in
+    let c : closeReply M (s .phase) ≡ Accepted = close-accepted M (s .phase) (history M proper k m ab t os accepted [] .formed) (r .shut) (r .rest) in
     record { at-once = rw c (refl, refl); no-orders = λ cs. run-untouched M os t cs s still .table }
 
 -- ---- two closed lists
 pub fixed : FixedPromise
-fixed M M′ proper proper′ k k′ m m′ t t′ os os′ long agree a a′ cs cs′ same c c′ =
+fixed M M′ proper proper′ k k′ m m′ ab ab′ t t′ os os′ long agree a a′ cs cs′ same c c′ =
     let n = length t in
-    let xs = entriesAfter k′ (after M′ k′ m′ t′ os′ cs′ .ordered) t′ in
-    let rule : M .home n ≡ M′ .home n = λ i x. agree x i in
-    history M proper k m t os a cs .closed c
-    ∙ layouts n label (M .home n) refl (homes M proper k m t os a) .set-only _ _ same
+    let xs = entriesAfter k′ (after M′ k′ m′ ab′ t′ os′ cs′ .ordered) t′ in
+    let rule : M .home ab n ≡ M′ .home ab′ n = λ i x. agree x i in
+    history M proper k m ab t os a cs .closed c
+    ∙ layouts n label (M .home ab n) refl (homes M proper k m ab t os a) .set-only _ _ same
     ∙ ap (λ (h : ℕ → ℕ). pricedLayout n label h xs) rule
-    ∙ ap (λ (l : ℕ). pricedLayout l label (M′ .home l) xs) long
-    ∙ sym (history M′ proper′ k′ m′ t′ os′ a′ cs′ .closed c′)
+    ∙ ap (λ (l : ℕ). pricedLayout l label (M′ .home ab′ l) xs) long
+    ∙ sym (history M′ proper′ k′ m′ ab′ t′ os′ a′ cs′ .closed c′)
 
 -- what relates both outcomes of one test
 pairwise {ℓ} : {A : Type 0} (R : A → A → Type ℓ) (b : Bool) {x y x′ y′ : A} → R x x′ → R y y′ → R (cond b x y) (cond b x′ y′)
@@ -154,8 +156,11 @@ same-orders k xs ys t (same, cheap) = by-eq k 1
     (λ ne. rw (ne-eqb k 1 ne) (pairwise (SameLeast label) (eqb k 2) (without-labels-same label xs ys t same) (λ y nz. Iff·rfl)))
 
 pub one-table : OneTablePromise
-one-table M M′ proper proper′ k m m′ t os os′ agree a a′ cs cs′ same =
-    fixed M M′ proper proper′ k k m m′ t t os os′ refl agree a a′ cs cs′ (same-orders k (after M k m t os cs .ordered) (after M′ k m′ t os′ cs′ .ordered) t same)
+one-table M M′ proper proper′ k m m′ ab ab′ t os os′ agree a a′ cs cs′ same =
+    fixed M M′ proper proper′ k k m m′ ab ab′ t t os os′ refl agree a a′ cs cs′ (same-orders k (after M k m ab t os cs .ordered) (after M′ k m′ ab′ t os′ cs′ .ordered) t same)
+
+pub gateway-one-table : GatewayOneTable
+gateway-one-table k m m′ ab t os os′ = one-table gateway gateway gateway-proper gateway-proper k m m′ ab ab t os os′ (λ x. refl)
 
 -- ---- two turns
 pub two-turns : TwoTurnsPromise

@@ -19,16 +19,16 @@ use Rattle.protocol.proofs.Theorem.{turn-passed, inside}
 use Rattle.history.specs.Promise.{Alike, TwoTurnsPromise}
 
 pub alike : TwoTurnsPromise
-alike M p q t u w z a b kind sized same held = by (touched (doing p w)) refl (ap touched (sym same))
+alike M p q t u w z a b kind hash sized same held = by (touched (doing p w)) refl (ap touched (sym same))
   where
     -- the rule gives both turns one outcome
     outcome : (c : ℕ) → touched (doing p w) ≡ At c
-        → rule (p .kind) (p .length) label (M .home (p .length)) (doing p w) (getD t c 0)
-        ≡ rule (q .kind) (q .length) label (M .home (q .length)) (doing q z) (getD u c 0)
+        → rule (p .kind) (p .length) label (M .home (p .hash) (p .length)) (doing p w) (getD t c 0)
+        ≡ rule (q .kind) (q .length) label (M .home (q .hash) (q .length)) (doing q z) (getD u c 0)
     outcome c is =
         let l : p .length ≡ q .length = omega (arith, turn-passed M p t w a .2, turn-passed M q u z b .2) in
         let e : getD t c 0 ≡ getD u c 0 = held c is in
-        rw (kind, l, same, e)
+        rw (kind, hash, l, same, e)
 
     cell : (c : ℕ) → touched (doing p w) ≡ At c → getD (turnTable M p t w) c 0 ≡ getD (turnTable M q u z) c 0
     cell c is = rw (a, b, ← same, is) (

@@ -7,6 +7,7 @@ use Prim.Native.Nat.{ℕ, _+_}
 use lib.Dec.{ltb}
 use lib.ListN.{getD, set, replicate}
 use Rattle.ring.specs.Counting.{bit}
+use Rattle.homes.specs.declared.Hash.{Hash}
 use Rattle.orders.specs.Orders.{lineAt}
 use Rattle.orders.specs.declared.Order.{Order}
 use Rattle.rule.specs.declared.Answer.{Answer}
@@ -140,12 +141,12 @@ unfoldable pub runLent : Model → List Lent → History → History
 runLent M [] s = s
 runLent M (c ∷ cs) s = runLent M cs (call M (c .list) (c .asks) s)
 
--- ---- from an opening of kind k with m workers on the table t, lent the list os
-module _ (M : Model) (k m : ℕ) (t : List ℕ) (os : List Order) where
+-- ---- from an opening of kind k with m workers by a and b on the table t, lent the list os
+module _ (M : Model) (k m : ℕ) (ab : Hash) (t : List ℕ) (os : List Order) where
   abbrev pub opening : History
   opening = record {
     table = t;
-    phase = openCall M k m t os .phase;
+    phase = openCall M k m ab t os .phase;
     ordered = [];
     pending = replicate (M .room) 0;
     said = [];

@@ -9,7 +9,6 @@ use lib.Dec.{ltb, eqb}
 use lib.ListN.{length, getD, set, length-set}
 use borrow.Author.Tests.{eqb-true, ltb-true, ltb-false, eq-eqb, ne-eqb, le-leb, le-ltb}
 use Rattle.ring.proofs.Split.{by-lt}
-use Rattle.layout.proofs.Home.{mod-home}
 use Rattle.prices.specs.Contents.{label}
 use Rattle.orders.specs.Orders.{lineAt}
 use Rattle.orders.specs.declared.Found.{Found}
@@ -19,6 +18,7 @@ use Rattle.state.specs.Model.{Model, gateway}
 use Rattle.state.specs.declared.Phase.{Phase}
 use Rattle.state.specs.declared.Refusal.the-variants.{NoWorker, Working, Shut, NoLine}
 use Rattle.state.specs.declared.Reply.the-variants.{Accepted, Refused}
+use Rattle.state.proofs.Model.{gateway-proper}
 use Rattle.protocol.specs.Bars.{allIdle}
 use Rattle.protocol.specs.Calls.{shutPhase, orderFound, orderCall}
 use Rattle.protocol.specs.Split.{oneOrder, oneTurn, oneTable}
@@ -73,7 +73,7 @@ module _ (M : Model) (os : List Order) (p : Phase) (t : List ℕ) (good : isWell
             (asked-refused M p l w v a is _ NoWorker refl (simp (good, up, there, le-leb _ _ past)) ∙ by-line) refl
 
         pub given-applies : a .worker < p .crew → (g : Given) (n : ℕ)
-            → g ≡ oneOrder M (p .kind) (p .length) (getD (p .workers) (a .worker) idle) (a .key) (a .price) → n ≡ replyAnswer (g .reply)
+            → g ≡ oneOrder M (p .kind) (p .hash) (p .length) (getD (p .workers) (a .worker) idle) (a .key) (a .price) → n ≡ replyAnswer (g .reply)
             → Applies M os p t (order i w v) (record { phase = with-given p (a .worker) g .phase; answer = n }) t
         given-applies below g n gives number =
             order-applies M os p t i w v n (with-given p (a .worker) g)
@@ -87,8 +87,8 @@ module _ (M : Model) (os : List Order) (p : Phase) (t : List ℕ) (good : isWell
           (simp (good, up, eq-eqb _ _ fits, le-leb _ _ past))
           (simp (good, up, eq-eqb _ _ fits, le-leb _ _ past)) refl
 
-      pub moved-applies : w < p .crew → (m : Moved) (t′ : List ℕ) (a : ℕ) → m ≡ oneTurn M (p .kind) (p .length) t (getD (p .workers) w idle)
-          → t′ ≡ oneTable M (p .kind) (p .length) t (getD (p .workers) w idle) → a ≡ turnAnswer (m .reply)
+      pub moved-applies : w < p .crew → (m : Moved) (t′ : List ℕ) (a : ℕ) → m ≡ oneTurn M (p .kind) (p .hash) (p .length) t (getD (p .workers) w idle)
+          → t′ ≡ oneTable M (p .kind) (p .hash) (p .length) t (getD (p .workers) w idle) → a ≡ turnAnswer (m .reply)
           → Applies M os p t (turn w) (record { phase = with-moved p w m .phase; answer = a }) t′
       moved-applies below m t′ a is cells number =
           let (e, f) = turn-by-one M p t w good up fits below in
@@ -105,7 +105,7 @@ pub record InPlace (os : List Order) (ops lines workers keys : List ℕ) (p₀ :
 
 -- a phase, shut or not
 abbrev with-shut : Phase → Bool → Phase
-with-shut p b = record { kind = p .kind; length = p .length; crew = p .crew; shut = b; workers = p .workers }
+with-shut p b = record { kind = p .kind; length = p .length; crew = p .crew; shut = b; hash = p .hash; workers = p .workers }
 
 -- a phase with its table, and nothing counted
 abbrev bare : Phase → List ℕ → History
@@ -155,7 +155,8 @@ module _ {os : List Order} {ops lines workers keys : List ℕ} {p₀ : Phase} {t
     one-more : (r : Applied) (t′ : List ℕ) → Applies gateway os p t (callOf op line worker key) r t′ → r .phase .length ≡ p .length → length t′ ≡ length t
         → Next (r .phase) t′ (r .answer)
     one-more r t′ applies as-long kept =
-        let formed = call-keeps gateway os (callOf op line worker key) (bare p t) (mod-home (p .length) some-cells) (well-formed-says gateway p .0 (h .good)) in
+        let formed = call-keeps gateway os (callOf op line worker key) (bare p t) (λ v. gateway-proper .homes (p .hash) (p .length) v some-cells)
+        (well-formed-says gateway p .0 (h .good)) in
         record {
           ran = one-more-run gateway os ops lines workers keys i p₀ t₀ out₀ p t out r t′ room (h .ran) applies;
           good = rw (applies (bare p t) refl refl .phase) (well-formed-says gateway _ .1 formed);
@@ -192,7 +193,7 @@ module _ {os : List Order} {ops lines workers keys : List ℕ} {p₀ : Phase} {t
         pub asked-below : a .worker < p .crew
         asked-below = passed .2
 
-        pub given-next : (g : Given) (n : ℕ) → g ≡ oneOrder gateway (p .kind) (p .length) (getD (p .workers) (a .worker) idle) (a .key) (a .price)
+        pub given-next : (g : Given) (n : ℕ) → g ≡ oneOrder gateway (p .kind) (p .hash) (p .length) (getD (p .workers) (a .worker) idle) (a .key) (a .price)
             → n ≡ replyAnswer (g .reply) → Next (with-given p (a .worker) g .phase) t n
         given-next g n gives number =
             order-more ordered _
@@ -224,8 +225,8 @@ module _ {os : List Order} {ops lines workers keys : List ℕ} {p₀ : Phase} {t
               (λ l. let z = simp (is, open-still, le-ltb worker (p .crew) l, eq-eqb op 2 e) at pass in absurd (omega arith))
 
           pub moved-next : (e : op ≡ 2) (m : Moved) (t′ : List ℕ) (n : ℕ)
-              → (m ≡ oneTurn gateway (p .kind) (p .length) t (getD (p .workers) worker idle))
-              × (t′ ≡ oneTable gateway (p .kind) (p .length) t (getD (p .workers) worker idle))
+              → (m ≡ oneTurn gateway (p .kind) (p .hash) (p .length) t (getD (p .workers) worker idle))
+              × (t′ ≡ oneTable gateway (p .kind) (p .hash) (p .length) t (getD (p .workers) worker idle))
               → length t′ ≡ length t → n ≡ turnAnswer (m .reply) → Next (with-moved p worker m .phase) t′ n
           moved-next e m t′ n gives kept number =
               turn-more e _ t′

@@ -112,6 +112,7 @@ pub fn run_tested(
             } else {
                 let given = one_order(
                     next.kind,
+                    next.hash,
                     next.length,
                     next.workers[chosen],
                     asked.key,
@@ -127,7 +128,13 @@ pub fn run_tested(
             if bar != 0 {
                 answers[place] = bar;
             } else if op == 2 {
-                let moved = one_turn(next.kind, next.length, cells, next.workers[worker]);
+                let moved = one_turn(
+                    next.kind,
+                    next.hash,
+                    next.length,
+                    cells,
+                    next.workers[worker],
+                );
                 let turned = moved.worker;
                 let reply = moved.reply;
                 next.workers[worker] = turned;

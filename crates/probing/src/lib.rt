@@ -1,13 +1,13 @@
 // The steps of an insert and of a find, and what all steps share: the touched cell, and the outcomes.
+// No home is computed here: what a step does is the same for every home rule.
 use activities::Activity;
 use prices::PRICES;
 use rule::Answer;
 use rule::Outcome;
 use rule::Place;
 ghost use mathlib.Core.Path.{_≡_};
-ghost use Prim.Native.Nat.{_<_};
+ghost use Prim.Native.Nat.{ℕ, _<_};
 ghost use Rattle.ring.specs.Ring;
-ghost use Rattle.layout.specs.Home.{modulo};
 ghost use Rattle.prices.specs.Contents;
 ghost use Rattle.prices.specs.Contents.{label};
 ghost use Rattle.activities.specs.Activities.{cellsOf, Below};
@@ -100,7 +100,7 @@ fn absorbed(entry: u64, seen: u64) -> bool
 
 fn insert_reading(length: u32, entry: u64, cell: u32, content: u64) -> Outcome
     requires { ⌜ cell < length ⌝ }
-    ensures { λ r. ⌜ r ≡ insertStep length label (modulo length) (Activity.Reading entry cell) content ⌝ }
+    ensures { λ r. ⌜ ((home : ℕ → ℕ) → r ≡ insertStep length label home (Activity.Reading entry cell) content) ⌝ }
 {
     if entry / PRICES < content / PRICES {
         return reads_on(length, entry, cell, content);
@@ -122,7 +122,7 @@ fn insert_reading(length: u32, entry: u64, cell: u32, content: u64) -> Outcome
 // `seen` is what the cell held when it was read; from which cell plays no part.
 fn insert_replacing(length: u32, entry: u64, cell: u32, seen: u64, content: u64) -> Outcome
     requires { ⌜ cell < length ⌝ }
-    ensures { λ r. ⌜ r ≡ insertStep length label (modulo length) (Activity.Replacing entry cell cell seen) content ⌝ }
+    ensures { λ r. ⌜ ((home : ℕ → ℕ) → r ≡ insertStep length label home (Activity.Replacing entry cell cell seen) content) ⌝ }
 {
     if content != seen {
         return goes(Activity::Reading { entry, cell }, content);
@@ -135,7 +135,7 @@ fn insert_replacing(length: u32, entry: u64, cell: u32, seen: u64, content: u64)
 
 pub fn insert_step(length: u32, activity: Activity, content: u64) -> Outcome
     requires { ⌜ Below length (cellsOf activity) ⌝ }
-    ensures { λ r. ⌜ r ≡ insertStep length label (modulo length) activity content ⌝ }
+    ensures { λ r. ⌜ ((home : ℕ → ℕ) → r ≡ insertStep length label home activity content) ⌝ }
 {
     match activity {
         Activity::Reading { entry, cell } => insert_reading(length, entry, cell, content),
@@ -158,7 +158,7 @@ fn price_of(content: u64) -> u32
 
 pub fn find_step(length: u32, activity: Activity, content: u64) -> Outcome
     requires { ⌜ Below length (cellsOf activity) ⌝ }
-    ensures { λ r. ⌜ r ≡ findStep length label (modulo length) activity content ⌝ }
+    ensures { λ r. ⌜ ((home : ℕ → ℕ) → r ≡ findStep length label home activity content) ⌝ }
 {
     let Activity::Reading { entry, cell } = activity else {
         return unmoved(activity, content);

@@ -112,10 +112,10 @@ no-lacks k n key a c o (still _ _ r) e z = omega (arith, ap sort r, ap sort e)
 -- ---- of a turn
 module _ (M : Model) (p : Phase) (t : List ℕ) (w : ℕ) where
   abbrev reached : ℕ → Outcome
-  reached c = rule (p .kind) (p .length) label (M .home (p .length)) (doing p w) (getD t c 0)
+  reached c = rule (p .kind) (p .length) label (M .home (p .hash) (p .length)) (doing p w) (getD t c 0)
 
   reached-tells : (c : ℕ) → Tells (p .kind) (p .length) label (doing p w) (getD t c 0) (reached c)
-  reached-tells c = rule-tells (p .kind) (p .length) label (M .home (p .length)) (doing p w) (getD t c 0)
+  reached-tells c = rule-tells (p .kind) (p .length) label (M .home (p .hash) (p .length)) (doing p w) (getD t c 0)
 
   pub moved-answers : Kind (p .kind) → Suits (p .kind) (p .length) label (doing p w) → (q : Place) → touched (doing p w) ≡ q → (r : Answer)
       → movedAt M p t w q .reply ≡ Answered r → Answers (p .kind) (doing p w) (doing (movedAt M p t w q .phase) w) r

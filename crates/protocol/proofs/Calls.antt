@@ -9,7 +9,11 @@ use lib.Dec.{leb, ltb, eqb}
 use lib.ListN.{length, getD}
 use borrow.Author.Tests.{leb-true, leb-false, ltb-true, ltb-false, not-true, not-false}
 use Rattle.ring.proofs.Tests.{not-both, equal-says, within-says, by-test}
+use Rattle.homes.specs.declared.Hash.{Hash}
 use Rattle.prices.specs.Contents.{priceOk}
+use Rattle.homes.specs.Homes.{isEven}
+use Rattle.homes.specs.Promise as promise
+use Rattle.homes.proofs.Theorem.{homes-promise as homes}
 use Rattle.flaws.specs.Flaws.{isIntact, meetsEmpty, meetsKey}
 use Rattle.flaws.specs.Promise.{Intact, Damaged}
 use Rattle.flaws.proofs.Theorem.{theorem as flaws}
@@ -26,7 +30,7 @@ use Rattle.state.specs.Model.{Model, sizeOk, crewOk}
 use Rattle.state.specs.Open.{crowded}
 use Rattle.state.specs.Refusals.{replyNumber}
 use Rattle.state.specs.declared.Phase.{Phase}
-use Rattle.state.specs.declared.Refusal.the-variants.{Size, Crew, Kind, Unsound, OtherTable, NoWorker, Blank, Busy, Full, Working, Shut, Spoilt, WrongPrice, NoLine, LongList, Gap, Disorder}
+use Rattle.state.specs.declared.Refusal.the-variants.{Size, Crew, Kind, Unsound, OtherTable, NoWorker, Blank, Busy, Full, Working, Shut, Spoilt, WrongPrice, NoLine, LongList, Gap, Disorder, Even}
 use Rattle.protocol.specs.Bars.{doing, allIdle}
 use Rattle.protocol.specs.Calls.{turnNumber, movedAt, turnCheck, turnCall}
 use Rattle.protocol.specs.IsWellFormed.{isWellFormed}
@@ -37,13 +41,26 @@ use Rattle.protocol.proofs.Chain.{Step, barring, wanting, by-reply}
 use Rattle.protocol.proofs.WellFormed.{all-idle-says, some-busy, well-formed-says}
 
 -- ---- open
-module _ (M : Model) (t : List ℕ) where
-  abbrev pub sizeSteps : List Step
-  sizeSteps = wanting (sizeOk M (length t)) (within-says (M .fewestCells) (M .mostCells) (length t)) Size ∷ []
+abbrev pub sizeSteps : Model → List ℕ → List Step
+sizeSteps M t = wanting (sizeOk M (length t)) (within-says (M .fewestCells) (M .mostCells) (length t)) Size ∷ []
 
+abbrev pub evenSteps : Hash → List Step
+evenSteps ab =
+    record {
+      when = isEven ab;
+      why = Even;
+      passes = promise.Odd (ab .a);
+      applies = promise.Even (ab .a);
+      if-true = homes .even ab .0;
+      if-false = homes .odd ab .0;
+      apart = λ o e. not-both (isEven ab) (homes .even ab .1 e) (homes .odd ab .1 o);
+    }
+    ∷ []
+
+module _ (M : Model) (ab : Hash) (t : List ℕ) where
   abbrev pub soundSteps : List Step
   soundSteps =
-      let home = M .home (length t) in
+      let home = M .home ab (length t) in
       let kinds = flaws .kinds home t in
       record {
         when = not (isIntact t);
@@ -58,13 +75,13 @@ module _ (M : Model) (t : List ℕ) where
       ∷ barring (meetsKey home t) (kinds .disordered) Disorder
       ∷ []
 
-module _ (M : Model) (k m : ℕ) (t : List ℕ) where
+module _ (M : Model) (k m : ℕ) (ab : Hash) (t : List ℕ) where
   abbrev limitSteps : List Step
   limitSteps =
       sizeSteps M t
       ++ wanting (crewOk M m) (within-says (M .fewestWorkers) (M .mostWorkers) m) Crew
       ∷ wanting (kindOk k) (within-says 1 3 k) Kind
-      ∷ []
+      ∷ evenSteps ab
 
   -- an insert phase, and any other
   abbrev pub insertSteps : List Order → List Step
@@ -79,7 +96,7 @@ module _ (M : Model) (k m : ℕ) (t : List ℕ) where
         if-false = ltb-false (M .mostLines) (length os);
         apart = λ l h. omega arith;
       }
-      ∷ soundSteps M t
+      ∷ soundSteps M ab t
       ++ barring (eqb (linesFault m os) 7) (blank-first m os) Blank
       ∷ barring (eqb (linesFault m os) 14) (price-first m os) WrongPrice
       ∷ barring (eqb (linesFault m os) 6) (worker-first m os) NoWorker
@@ -87,7 +104,7 @@ module _ (M : Model) (k m : ℕ) (t : List ℕ) where
       ∷ []
 
   abbrev pub otherSteps : List Step
-  otherSteps = limitSteps ++ soundSteps M t
+  otherSteps = limitSteps ++ soundSteps M ab t
 
 module _ (M : Model) (p : Phase) where
   abbrev phaseSteps : List Step

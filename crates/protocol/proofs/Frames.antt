@@ -34,7 +34,7 @@ moved p w x l = ap (λ (y : Worker). y .activity) (getD-set-same (p .workers) w 
 
 -- ---- frames
 framed-self : (p : Phase) → Framed p p
-framed-self p = record { kind = refl; cells = refl; crew = refl; places = refl }
+framed-self p = record { kind = refl; cells = refl; crew = refl; hash = refl; places = refl }
 
 pub but-self : (w : ℕ) (p : Phase) → ButFor w p p
 but-self w p = record { frame = framed-self p; shut = refl; others = λ u ne. refl }
@@ -42,7 +42,7 @@ but-self w p = record { frame = framed-self p; shut = refl; others = λ u ne. re
 pub but-worker : (w : ℕ) (p : Phase) (a : Activity) → ButFor w p (withWorker p w a)
 but-worker w p a =
     record {
-      frame = record { kind = refl; cells = refl; crew = refl; places = length-set (p .workers) w _ };
+      frame = record { kind = refl; cells = refl; crew = refl; hash = refl; places = length-set (p .workers) w _ };
       shut = refl;
       others = λ u ne. ap (λ (x : Worker). x .activity) (getD-set-other (p .workers) w u _ idle ne);
     }
@@ -56,14 +56,14 @@ module _ (M : Model) (p : Phase) (lacks : Bool) (w v cents : ℕ) where
   pub ordered-starts : (p .kind ≡ 1 → (1 ≤ cents) × (cents ≤ 9999999)) → (at : ℕ) → entry ≡ content v at → Starts M p w v at (orderedPhase M p lacks w v cents)
   ordered-starts ok at is =
       record {
-        others = but-worker w p (start label (M .home (p .length)) entry);
+        others = but-worker w p (start label (M .home (p .hash) (p .length)) entry);
         starts = λ l.
-            moved p w (start label (M .home (p .length)) entry) l
-            ∙ ap₂ (λ (e x : ℕ). Reading e (M .home (p .length) x)) is (entry-key (p .kind) v cents ok);
+            moved p w (start label (M .home (p .hash) (p .length)) entry) l
+            ∙ ap₂ (λ (e x : ℕ). Reading e (M .home (p .hash) (p .length) x)) is (entry-key (p .kind) v cents ok);
       }
 
 pub shut-ends : (p : Phase) → Ends p (shutPhase p)
-shut-ends p = record { frame = record { kind = refl; cells = refl; crew = refl; places = refl }; shut = refl; workers = refl }
+shut-ends p = record { frame = record { kind = refl; cells = refl; crew = refl; hash = refl; places = refl }; shut = refl; workers = refl }
 
 -- ---- a turn that moves its worker
 module _ (M : Model) (p : Phase) (t : List ℕ) (w : ℕ) where

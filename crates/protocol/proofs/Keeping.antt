@@ -8,6 +8,8 @@ use native.Mathlib.Omega.{arith}
 use lib.ListN.{length, getD, set}
 use lib.Seq.{getD-set-same, getD-set-other, set-out}
 use Rattle.ring.proofs.Split.{by-lt, by-eq}
+use Rattle.homes.specs.Homes.{plain}
+use Rattle.homes.specs.declared.Hash.{Hash}
 use Rattle.prices.specs.Contents.{label}
 use Rattle.orders.specs.Orders.{lineAt}
 use Rattle.orders.specs.declared.Order.{Order}
@@ -57,7 +59,7 @@ module _ (M : Model) (p : Phase) (good : WellFormed M p) where
       (λ e. rw e (record { kind = good .kind; size = good .size; crew = good .crew; past = good .past; workers = good .workers }))
       (λ _ e. rw e good)
 
-  pub order-keeps : ((v : ℕ) → M .home (p .length) v < p .length) → (os : List Order) (i w v : ℕ) → WellFormed M (orderCall M p os i w v .phase)
+  pub order-keeps : ((v : ℕ) → M .home (p .hash) (p .length) v < p .length) → (os : List Order) (i w v : ℕ) → WellFormed M (orderCall M p os i w v .phase)
   order-keeps at-home os i w v =
       let o = asked (p .kind) (lineAt os i) w v in
       by-reply (foundReply M p (lineAt os i) w v)
@@ -65,7 +67,7 @@ module _ (M : Model) (p : Phase) (good : WellFormed M p) where
       let q = order-passed M p os i w v e in
       let same = entry-key (p .kind) (o .key) (o .price) (q .price) in
       rw e
-      (with-worker (o .worker) (start label (M .home (p .length)) (entryFor (p .kind) (o .key) (o .price))) (q .below) (rw same (q .key), rw same (at-home (o .key)))))
+      (with-worker (o .worker) (start label (M .home (p .hash) (p .length)) (entryFor (p .kind) (o .key) (o .price))) (q .below) (rw same (q .key), rw same (at-home (o .key)))))
       (λ _ e. rw e good)
 
   pub turn-keeps : (t : List ℕ) (w : ℕ) → WellFormed M (turnCall M p t w .phase)
@@ -74,33 +76,33 @@ module _ (M : Model) (p : Phase) (good : WellFormed M p) where
       at-place : w < p .crew → (q : Place) → WellFormed M (movedAt M p t w q .phase)
       at-place below Nowhere = good
       at-place below (At c) =
-          with-worker w _ below (rule-suits (p .kind) (p .length) label (M .home (p .length)) (doing p w) (getD t c 0) (good .workers w below))
+          with-worker w _ below (rule-suits (p .kind) (p .length) label (M .home (p .hash) (p .length)) (doing p w) (getD t c 0) (good .workers w below))
 
 pub keeps : KeepsPromise
 keeps M proper p good =
     record {
-      order = order-keeps M p good (λ v. proper .homes (p .length) v (omega (arith, proper .some, good .size)));
+      order = order-keeps M p good (λ v. proper .homes (p .hash) (p .length) v (omega (arith, proper .some, good .size)));
       turn = turn-keeps M p good;
       close = close-keeps M p good;
     }
 
 -- ---- openings, accepted or refused
-open-formed : (M : Model) → Size M 2 → Crew M 1 → (k m : ℕ) (t : List ℕ) (os : List Order) → WellFormed M (openCall M k m t os .phase)
-open-formed M two one k m t os = by-eq (replyNumber (openCall M k m t os .reply)) 0
+open-formed : (M : Model) → Size M 2 → Crew M 1 → (k m : ℕ) (ab : Hash) (t : List ℕ) (os : List Order) → WellFormed M (openCall M k m ab t os .phase)
+open-formed M two one k m ab t os = by-eq (replyNumber (openCall M k m ab t os .reply)) 0
     (λ z.
-    let p = open-passed M k m t os (sym (o .reply) ∙ none-accepted (openCall M k m t os .reply) z) in
-    resting-formed M k (length t) m false q (p .kind) (p .size) (p .crew) (o .accepted z))
-    (λ z. resting-formed M 3 2 1 true q (omega arith) two one (o .refused z))
+    let p = open-passed M k m ab t os (sym (o .reply) ∙ none-accepted (openCall M k m ab t os .reply) z) in
+    resting-formed M k (length t) m false ab q (p .kind) (p .size) (p .crew) (o .accepted z))
+    (λ z. resting-formed M 3 2 1 true plain q (omega arith) two one (o .refused z))
   where
-    o : Openings M k m t os
-    o = opens M k m t os
+    o : Openings M k m ab t os
+    o = opens M k m ab t os
 
     q : Phase
-    q = openCall M k m t os .phase
+    q = openCall M k m ab t os .phase
 
 -- ---- and later calls
 pub never-spoilt : NeverSpoiltPromise
-never-spoilt M proper two one p (opened k m t os) = open-formed M two one k m t os
+never-spoilt M proper two one p (opened k m ab t os) = open-formed M two one k m ab t os
 never-spoilt M proper two one p (ordered q h os i w v) = keeps M proper q (never-spoilt M proper two one q h) .order os i w v
 never-spoilt M proper two one p (turned q h t w) = keeps M proper q (never-spoilt M proper two one q h) .turn t w
 never-spoilt M proper two one p (closed q h) = keeps M proper q (never-spoilt M proper two one q h) .close
@@ -111,9 +113,9 @@ same-places p q number framed same =
     by-eq number 0 (λ z. framed z .places) (λ z. ap (λ (x : Phase). length (x .workers)) (same z))
 
 pub places : PlacesPromise
-places M p (opened k m t os) =
-    let o = opens M k m t os in
-    by-eq (replyNumber (openCall M k m t os .reply)) 0 (λ z. o .accepted z .places) (λ z. o .refused z .places)
+places M p (opened k m ab t os) =
+    let o = opens M k m ab t os in
+    by-eq (replyNumber (openCall M k m ab t os .reply)) 0 (λ z. o .accepted z .places) (λ z. o .refused z .places)
 places M p (ordered q h os i w v) = let o = orders M q os i w v in
     same-places q _ (replyNumber (orderCall M q os i w v .reply))
     (λ z. by-eq (q .kind) 1 (λ is. o .insert-accepted is z .others .frame) (λ ne. o .other-accepted ne z .others .frame)) (o .refused) ∙ places M q h

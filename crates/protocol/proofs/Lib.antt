@@ -2,6 +2,7 @@ pub mod Answering
 pub mod Calls
 pub mod Chain
 pub mod Frames
+pub mod Homing
 pub mod Keeping
 pub mod Lines
 pub mod Meeting

@@ -76,18 +76,18 @@ module _ (k n : ℕ) (home : ℕ → ℕ) (is : k ≡ 1) where
 -- ---- of a turn
 module _ (M : Model) (p : Phase) (t : List ℕ) (w : ℕ) where
   abbrev outcome : Activity → ℕ → Outcome
-  outcome a c = rule (p .kind) (p .length) label (M .home (p .length)) a (getD t c 0)
+  outcome a c = rule (p .kind) (p .length) label (M .home (p .hash) (p .length)) a (getD t c 0)
 
   -- of a worker doing a that touches cell c
   module _ (a : Activity) (c : ℕ) (on : doing p w ≡ a) (at : touched a ≡ At c) where
     place : touched (doing p w) ≡ At c
     place = ap touched on ∙ at
 
-    replies : movedAt M p t w (touched (doing p w)) .reply ≡ Answered (outcome a c .answer)
+    pub replies : movedAt M p t w (touched (doing p w)) .reply ≡ Answered (outcome a c .answer)
     replies =
         ap (λ (q : Place). movedAt M p t w q .reply) place ∙ ap (λ (b : Activity). Answered (outcome b c .answer)) on
 
-    leads : doing (movedAt M p t w (touched (doing p w)) .phase) w ≡ outcome a c .activity
+    pub leads : doing (movedAt M p t w (touched (doing p w)) .phase) w ≡ outcome a c .activity
     leads =
         ap (λ (q : Place). doing (movedAt M p t w q .phase) w) place
         ∙ moved p w (outcome (doing p w) c .activity) (present p w c place)
@@ -98,19 +98,19 @@ module _ (M : Model) (p : Phase) (t : List ℕ) (w : ℕ) where
     module _ (v i : ℕ) (on : doing p w ≡ Reading v i) (own : label (getD t i 0) ≡ label v) where
       pub moved-stands : price (getD t i 0) ≤ price v → movedAt M p t w (touched (doing p w)) .reply ≡ Answered Finished
       moved-stands l =
-          replies (Reading v i) i on refl ∙ ap Answered (own-stands (p .kind) (p .length) (M .home (p .length)) is v i (getD t i 0) own l)
+          replies (Reading v i) i on refl ∙ ap Answered (own-stands (p .kind) (p .length) (M .home (p .hash) (p .length)) is v i (getD t i 0) own l)
 
       pub moved-undercut : price v < price (getD t i 0) → doing (movedAt M p t w (touched (doing p w)) .phase) w ≡ Replacing v i i (getD t i 0)
       moved-undercut l =
-          leads (Reading v i) i on refl ∙ own-undercut (p .kind) (p .length) (M .home (p .length)) is v i (getD t i 0) own l
+          leads (Reading v i) i on refl ∙ own-undercut (p .kind) (p .length) (M .home (p .hash) (p .length)) is v i (getD t i 0) own l
 
     module _ (v i j x : ℕ) (on : doing p w ≡ Replacing v i j x) (held : getD t i 0 ≡ x) where
       pub moved-replaced : ((label x ≡ label v) × (price v < price x)) ⊎ (label x ≡ 0) → movedAt M p t w (touched (doing p w)) .reply ≡ Answered Finished
       moved-replaced h =
           replies (Replacing v i j x) i on refl
-          ∙ ap Answered (own-replaced (p .kind) (p .length) (M .home (p .length)) is v i j x (getD t i 0) held h)
+          ∙ ap Answered (own-replaced (p .kind) (p .length) (M .home (p .hash) (p .length)) is v i j x (getD t i 0) held h)
 
       pub moved-carries : label x ≢ 0 → (label x ≡ label v → price x ≤ price v)
           → doing (movedAt M p t w (touched (doing p w)) .phase) w ≡ Reading x (next (p .length) i)
       moved-carries nz h =
-          leads (Replacing v i j x) i on refl ∙ other-carried (p .kind) (p .length) (M .home (p .length)) is v i j x (getD t i 0) held nz h
+          leads (Replacing v i j x) i on refl ∙ other-carried (p .kind) (p .length) (M .home (p .hash) (p .length)) is v i j x (getD t i 0) held nz h

@@ -11,6 +11,9 @@ use borrow.Author.Tests.{eq-eqb, ne-eqb, le-leb}
 use Rattle.ring.proofs.Split.{by-lt, by-eq}
 use Rattle.ring.proofs.Tests.{tested}
 use Rattle.layout.specs.Layout.{size}
+use Rattle.homes.specs.Homes.{plain}
+use Rattle.homes.specs.Promise.{Odd}
+use Rattle.homes.specs.declared.Hash.{Hash}
 use Rattle.prices.specs.Contents.{label, content}
 use Rattle.prices.specs.Priced.{labels}
 use Rattle.flaws.specs.Promise.{Intact}
@@ -36,7 +39,7 @@ use Rattle.protocol.specs.Bars.{doing, mispriced}
 use Rattle.protocol.specs.IsWellFormed.{isWellFormed}
 use Rattle.protocol.specs.Calls.{turnNumber, asked, missing, entryFor, closeReply, closeCall, orderReply, orderTo, foundReply, orderCall, turnCheck, movedAt, turnCall}
 use Rattle.protocol.specs.Cases.{Decides}
-use Rattle.protocol.specs.Promise.{SoundIn, Soundness, GappedIn, DisorderedIn, insertCases, otherCases, lineOrderCases, handedCases, Starts, Answers, turnCases, WellFormedPromise, OpenPromise, OrderPromise, TurnPromise, ClosePromise}
+use Rattle.protocol.specs.Promise.{HashUntestedPromise, SoundIn, Soundness, GappedIn, DisorderedIn, insertCases, otherCases, lineOrderCases, handedCases, Starts, Answers, turnCases, WellFormedPromise, OpenPromise, OrderPromise, TurnPromise, ClosePromise}
 use Rattle.protocol.specs.WellFormed.{Size, Crew, Kind, WellFormed}
 use Rattle.protocol.specs.declared.TurnReply.the-variants.{Answered}
 use Rattle.protocol.proofs.Answering.{moved-answers, moved-price, moved-no}
@@ -55,21 +58,21 @@ pub well-formed : WellFormedPromise
 well-formed = well-formed-says
 
 -- ---- open
-module _ (M : Model) (k m : ℕ) (t : List ℕ) (os : List Order) where
-  open-reply : openCall M k m t os .reply ≡ openReply M k m t os
-  open-reply = by-reply (openReply M k m t os) (λ e. rw e) (λ _ e. rw e)
+module _ (M : Model) (k m : ℕ) (ab : Hash) (t : List ℕ) (os : List Order) where
+  open-reply : openCall M k m ab t os .reply ≡ openReply M k m ab t os
+  open-reply = by-reply (openReply M k m ab t os) (λ e. rw e) (λ _ e. rw e)
 
   abbrev open-answer : ℕ
-  open-answer = replyNumber (openCall M k m t os .reply)
+  open-answer = replyNumber (openCall M k m ab t os .reply)
 
-  open-number : open-answer ≡ replyNumber (openReply M k m t os)
+  open-number : open-answer ≡ replyNumber (openReply M k m ab t os)
   open-number = ap replyNumber open-reply
 
-  insert-decides : k ≡ 1 → Decides open-answer (insertCases M k m t os)
-  insert-decides is = decides (insertSteps M k m t os) refl open-answer (open-number ∙ rw (eq-eqb k 1 is))
+  insert-decides : k ≡ 1 → Decides open-answer (insertCases M k m ab t os)
+  insert-decides is = decides (insertSteps M k m ab t os) refl open-answer (open-number ∙ rw (eq-eqb k 1 is))
 
-  other-decides : k ≢ 1 → Decides open-answer (otherCases M k m t)
-  other-decides ne = decides (otherSteps M k m t) refl open-answer (open-number ∙ rw (ne-eqb k 1 ne))
+  other-decides : k ≢ 1 → Decides open-answer (otherCases M k m ab t)
+  other-decides ne = decides (otherSteps M k m ab t) refl open-answer (open-number ∙ rw (ne-eqb k 1 ne))
 
   -- what an accepted opening of an insert phase has passed besides
   pub record ListPassed : Type 0 where
@@ -81,68 +84,76 @@ module _ (M : Model) (k m : ℕ) (t : List ℕ) (os : List Order) where
     pub size : Size M (length t)
     pub crew : Crew M m
     pub kind : Kind k
-    pub sound : Proper M → SoundIn M t
+    pub odd : Odd (ab .a)
+    pub sound : Proper M → SoundIn M ab t
     pub list : k ≡ 1 → ListPassed
 
-  none-of : Intact t → (GappedIn M t → ⊥) → (DisorderedIn M t → ⊥) → Proper M → SoundIn M t
-  none-of w g d proper = sounds .words M t .1 (sounds .kinds M proper t .1 (w, g, d))
+  none-of : Intact t → (GappedIn M ab t → ⊥) → (DisorderedIn M ab t → ⊥) → Proper M → SoundIn M ab t
+  none-of w g d proper = sounds .words M ab t .1 (sounds .kinds M proper ab t .1 (w, g, d))
 
   insert-passed : k ≡ 1 → open-answer ≡ 0 → OpenPassed
   insert-passed is z =
-      let (_, (_, (_, (_, (_, (_, (_, (_, (_, (_, (_, none))))))))))) = insert-decides is in
-      let (((((((((((_, a), b), c), _), d), e), f), x), y), w), few) = none .0 z in
-      record { size = a; crew = b; kind = c; sound = none-of d e f; list = λ _. record { lines = all-good m os x y w; room = fewer few } }
+      let (_, (_, (_, (_, (_, (_, (_, (_, (_, (_, (_, (_, none)))))))))))) = insert-decides is in
+      let ((((((((((((_, a), b), c), o), _), d), e), f), x), y), w), few) = none .0 z in
+      record { size = a; crew = b; kind = c; odd = o; sound = none-of d e f; list = λ _. record { lines = all-good m os x y w; room = fewer few } }
     where
       fewer : (Fills t os → ⊥) → size (labels label t ++ orderKeys os) < length t
       fewer none = by-lt (size (labels label t ++ orderKeys os)) (length t) (λ l. l) (λ l. absurd (none (fills-says t os .0 (le-leb _ _ l))))
 
   other-passed : k ≢ 1 → open-answer ≡ 0 → OpenPassed
   other-passed ne z =
-      let (_, (_, (_, (_, (_, (_, none)))))) = other-decides ne in
-      let ((((((_, a), b), c), d), e), f) = none .0 z in
-      record { size = a; crew = b; kind = c; sound = none-of d e f; list = λ is. absurd (ne is) }
+      let (_, (_, (_, (_, (_, (_, (_, none))))))) = other-decides ne in
+      let (((((((_, a), b), c), o), d), e), f) = none .0 z in
+      record { size = a; crew = b; kind = c; odd = o; sound = none-of d e f; list = λ is. absurd (ne is) }
 
   number-passed : open-answer ≡ 0 → OpenPassed
   number-passed z = by-eq k 1 (λ is. insert-passed is z) (λ ne. other-passed ne z)
 
-  pub open-passed : openReply M k m t os ≡ Accepted → OpenPassed
+  pub open-passed : openReply M k m ab t os ≡ Accepted → OpenPassed
   open-passed e = number-passed (open-number ∙ ap replyNumber e)
 
-  never-unsound : Proper M → Soundness M t → (open-answer ≢ 4) × (open-answer ≢ 17) × (open-answer ≢ 18)
+  never-unsound : Proper M → Soundness M ab t → (open-answer ≢ 4) × (open-answer ≢ 17) × (open-answer ≢ 18)
   never-unsound proper s =
-      let (w, g, d) = sounds .kinds M proper t .0 s in
-      let not-damaged = flaws .kinds (M .home (length t)) t .not-damaged w in
+      let (w, g, d) = sounds .kinds M proper ab t .0 s in
+      let not-damaged = flaws .kinds (M .home ab (length t)) t .not-damaged w in
       by-eq k 1
       (λ is.
-      let (_, (_, (_, (_, (four, (seventeen, (eighteen, _))))))) = insert-decides is in
+      let (_, (_, (_, (_, (_, (four, (seventeen, (eighteen, _)))))))) = insert-decides is in
       (λ e. not-damaged (four .0 e .1), λ e. g (seventeen .0 e .1), λ e. d (eighteen .0 e .1)))
       (λ ne.
-      let (_, (_, (_, (four, (seventeen, (eighteen, _)))))) = other-decides ne in
+      let (_, (_, (_, (_, (four, (seventeen, (eighteen, _))))))) = other-decides ne in
       (λ e. not-damaged (four .0 e .1), λ e. g (seventeen .0 e .1), λ e. d (eighteen .0 e .1)))
 
-  open-refused {ℓ} : {C : Type ℓ} → open-answer ≢ 0 → ((q : Refusal) → openReply M k m t os ≡ Refused q → C) → C
-  open-refused z f = by-reply (openReply M k m t os) (λ e. absurd (z (open-number ∙ ap replyNumber e))) f
+  open-refused {ℓ} : {C : Type ℓ} → open-answer ≢ 0 → ((q : Refusal) → openReply M k m ab t os ≡ Refused q → C) → C
+  open-refused z f = by-reply (openReply M k m ab t os) (λ e. absurd (z (open-number ∙ ap replyNumber e))) f
 
-  open-accepted : open-answer ≡ 0 → openReply M k m t os ≡ Accepted
-  open-accepted z = none-accepted (openReply M k m t os) (sym open-number ∙ z)
+  open-accepted : open-answer ≡ 0 → openReply M k m ab t os ≡ Accepted
+  open-accepted z = none-accepted (openReply M k m ab t os) (sym open-number ∙ z)
 
 -- outside insert phases the list is not read
-open-unread : (M : Model) (k m : ℕ) (t : List ℕ) (os other : List Order) → k ≢ 1 → openCall M k m t other ≡ openCall M k m t os
-open-unread M k m t os other ne = rw (ne-eqb k 1 ne)
+open-unread : (M : Model) (k m : ℕ) (ab : Hash) (t : List ℕ) (os other : List Order) → k ≢ 1 → openCall M k m ab t other ≡ openCall M k m ab t os
+open-unread M k m ab t os other ne = rw (ne-eqb k 1 ne)
 
 pub opens : OpenPromise
-opens M k m t os =
+opens M k m ab t os =
     record {
-      reply = open-reply M k m t os;
-      inserts = insert-decides M k m t os;
-      others = other-decides M k m t os;
-      sound = λ proper z. sounds .words M t .0 (number-passed M k m t os z .sound proper);
-      never-unsound = never-unsound M k m t os;
-      refused = λ z. open-refused M k m t os z (λ _ e. rw e (fresh-resting M 3 2 1 true));
-      accepted = λ z. rw (open-accepted M k m t os z) (fresh-resting M k (length t) m false);
-      lines = λ is z. number-passed M k m t os z .list is .lines;
-      unread = λ ne other. open-unread M k m t os other ne;
+      reply = open-reply M k m ab t os;
+      inserts = insert-decides M k m ab t os;
+      others = other-decides M k m ab t os;
+      sound = λ proper z. sounds .words M ab t .0 (number-passed M k m ab t os z .sound proper);
+      never-unsound = never-unsound M k m ab t os;
+      refused = λ z. open-refused M k m ab t os z (λ _ e. rw e (fresh-resting M 3 2 1 true plain));
+      accepted = λ z. rw (open-accepted M k m ab t os z) (fresh-resting M k (length t) m false ab);
+      lines = λ is z. number-passed M k m ab t os z .list is .lines;
+      unread = λ ne other. open-unread M k m ab t os other ne;
     }
+
+-- ---- a and b are not tested
+pub hash-untested : HashUntestedPromise
+hash-untested M p ab = (
+  λ f. record { kind = f .kind; size = f .size; crew = f .crew; past = f .past; workers = f .workers },
+  λ f. record { kind = f .kind; size = f .size; crew = f .crew; past = f .past; workers = f .workers },
+)
 
 -- ---- order
 -- of key v, with its price, to worker w, by a line that the list lacks or not
@@ -250,7 +261,7 @@ module _ (M : Model) (p : Phase) (t : List ℕ) (w : ℕ) where
       let (_, (_, (_, (_, none)))) = turn-decides in
       let ((((_, f), running), cells), worker) = none .0 (turn-number M p t w ∙ ap replyNumber e) in (f, running, cells, worker)
 
-  turn-accepted : turnNumber (turnCall M p t w .reply) ≡ 0 → turnCheck M p t w ≡ Accepted
+  pub turn-accepted : turnNumber (turnCall M p t w .reply) ≡ 0 → turnCheck M p t w ≡ Accepted
   turn-accepted z = none-accepted (turnCheck M p t w) (sym (turn-number M p t w) ∙ z)
 
   -- the cell that it touches is in the table

@@ -11,6 +11,7 @@ use Rattle.rule.specs.declared.Outcome.{Outcome}
 use Rattle.rule.specs.declared.Place.{Place}
 use Rattle.rule.specs.declared.Place.the-variants.{Nowhere, At}
 use Rattle.rule.specs.Rule.{touched, rule}
+use Rattle.homes.specs.declared.Hash.{Hash}
 use Rattle.prices.specs.Contents.{label}
 use Rattle.activities.specs.Activities.{idle, cellsOf, activityOk, Below}
 use Rattle.state.specs.Model.{Model}
@@ -36,22 +37,22 @@ module _ (k n : ℕ) (t : List ℕ) (w : Worker) (ok : activityOk k n label (w .
   pub one-below : (c : ℕ) → touched (w .activity) ≡ At c → c < length t
   one-below c e = let h = touched-below n (w .activity) c one-within e in omega arith
 
-module _ (M : Model) (k n : ℕ) (t : List ℕ) (w : Worker) where
+module _ (M : Model) (k : ℕ) (ab : Hash) (n : ℕ) (t : List ℕ) (w : Worker) where
   pub one-idle : touched (w .activity) ≡ Nowhere
-      → (_≡_ {A = Moved} (record { worker = w; reply = turnReply.Answered answer.Idle }) (oneTurn M k n t w)) × (t ≡ oneTable M k n t w)
+      → (_≡_ {A = Moved} (record { worker = w; reply = turnReply.Answered answer.Idle }) (oneTurn M k ab n t w)) × (t ≡ oneTable M k ab n t w)
   one-idle e = (rw e, rw e)
 
-  pub one-made : (c : ℕ) (o : Outcome) → touched (w .activity) ≡ At c → o ≡ rule k n label (M .home n) (w .activity) (getD t c 0)
-      → (_≡_ {A = Moved} (record { worker = record { activity = o .activity }; reply = turnReply.Answered (o .answer) }) (oneTurn M k n t w))
-      × (set t c (o .content) ≡ oneTable M k n t w)
+  pub one-made : (c : ℕ) (o : Outcome) → touched (w .activity) ≡ At c → o ≡ rule k n label (M .home ab n) (w .activity) (getD t c 0)
+      → (_≡_ {A = Moved} (record { worker = record { activity = o .activity }; reply = turnReply.Answered (o .answer) }) (oneTurn M k ab n t w))
+      × (set t c (o .content) ≡ oneTable M k ab n t w)
   one-made c o e h = (rw (e, h), rw (e, h))
 
-  at-long : (q : Place) → length (oneCellsAt M k n t w q) ≡ length t
+  at-long : (q : Place) → length (oneCellsAt M k ab n t w q) ≡ length t
   at-long Nowhere = refl
   at-long (At c) = length-set t c _
 
   -- the table keeps its length
-  pub one-long : length (oneTable M k n t w) ≡ length t
+  pub one-long : length (oneTable M k ab n t w) ≡ length t
   one-long = at-long (touched (w .activity))
 
 -- ---- the whole phase
@@ -72,15 +73,15 @@ module _ (M : Model) (p : Phase) (t : List ℕ) (w : ℕ) where
   abbrev worker : Worker
   worker = getD (p .workers) w idle
 
-  at-place : (q : Place) → (with-moved p w (oneAt M (p .kind) (p .length) t worker q) ≡ movedAt M p t w q)
-      × (oneCellsAt M (p .kind) (p .length) t worker q ≡ cellsAt M p t w q)
+  at-place : (q : Place) → (with-moved p w (oneAt M (p .kind) (p .hash) (p .length) t worker q) ≡ movedAt M p t w q)
+      × (oneCellsAt M (p .kind) (p .hash) (p .length) t worker q ≡ cellsAt M p t w q)
   at-place Nowhere = (rw put-back, refl)
   at-place (At c) = (refl, refl)
 
   -- a turn of the phase that is not refused is that turn
   pub turn-by-one : isWellFormed M p ≡ true → p .shut ≡ false → p .length ≡ length t → w < p .crew
-      → (with-moved p w (oneTurn M (p .kind) (p .length) t worker) ≡ turnCall M p t w)
-      × (oneTable M (p .kind) (p .length) t worker ≡ turnTable M p t w)
+      → (with-moved p w (oneTurn M (p .kind) (p .hash) (p .length) t worker) ≡ turnCall M p t w)
+      × (oneTable M (p .kind) (p .hash) (p .length) t worker ≡ turnTable M p t w)
   turn-by-one good up fits below =
       let all : turnCheck M p t w ≡ Accepted = simp (good, up, eq-eqb _ _ fits, lt-leb _ _ below) in
       rw all (at-place (touched (doing p w)))

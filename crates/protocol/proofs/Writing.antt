@@ -37,7 +37,7 @@ place-changed t d x c ne = by-eq c d
 module _ (M : Model) (p : Phase) (t : List ℕ) (w : ℕ) where
   -- what the rule makes of cell c
   abbrev made : ℕ → Outcome
-  made c = rule (p .kind) (p .length) label (M .home (p .length)) (doing p w) (getD t c 0)
+  made c = rule (p .kind) (p .length) label (M .home (p .hash) (p .length)) (doing p w) (getD t c 0)
 
   -- ---- a replace turn that finds what it read before writes
   module _ (v i j x : ℕ) (is : doing p w ≡ Replacing v i j x) (inside : i < length t) where
@@ -45,15 +45,15 @@ module _ (M : Model) (p : Phase) (t : List ℕ) (w : ℕ) where
     at-place = ap (λ (q : Place). getD (cellsAt M p t w q) i 0) (ap touched is) ∙ getD-set-same t i (made i .content) 0 inside
 
     pub cells-inserted : p .kind ≡ 1 → getD t i 0 ≡ x → getD (cellsAt M p t w (touched (doing p w))) i 0 ≡ v
-    cells-inserted kind held = at-place ∙ rw is (insert-replaces (p .kind) (p .length) label (M .home (p .length)) v i j x (getD t i 0) kind held)
+    cells-inserted kind held = at-place ∙ rw is (insert-replaces (p .kind) (p .length) label (M .home (p .hash) (p .length)) v i j x (getD t i 0) kind held)
 
     pub cells-deleted : p .kind ≡ 2 → getD t i 0 ≡ v → label x ≢ 0 → getD (cellsAt M p t w (touched (doing p w))) i 0 ≡ x
     cells-deleted kind held some =
-        at-place ∙ rw is (delete-replaces (p .kind) (p .length) label (M .home (p .length)) v i j x (getD t i 0) kind held some)
+        at-place ∙ rw is (delete-replaces (p .kind) (p .length) label (M .home (p .hash) (p .length)) v i j x (getD t i 0) kind held some)
 
     pub cells-emptied : p .kind ≡ 2 → getD t i 0 ≡ v → label x ≡ 0 → getD (cellsAt M p t w (touched (doing p w))) i 0 ≡ 0
     cells-emptied kind held none =
-        at-place ∙ rw is (delete-empties (p .kind) (p .length) label (M .home (p .length)) v i j x (getD t i 0) kind held none)
+        at-place ∙ rw is (delete-empties (p .kind) (p .length) label (M .home (p .hash) (p .length)) v i j x (getD t i 0) kind held none)
 
   -- ---- and no other turn changes a cell
   pub cells-written : (q : Place) → touched (doing p w) ≡ q → (c : ℕ) → getD (cellsAt M p t w q) c 0 ≢ getD t c 0
@@ -61,6 +61,6 @@ module _ (M : Model) (p : Phase) (t : List ℕ) (w : ℕ) where
   cells-written Nowhere is c ne = absurd (ne refl)
   cells-written (At d) is c ne =
       let (z, e) = place-changed t d (made d .content) c ne in
-      let rules = rule-writes (p .kind) (p .length) label (M .home (p .length)) (doing p w) (getD t c 0) in
+      let rules = rule-writes (p .kind) (p .length) label (M .home (p .hash) (p .length)) (doing p w) (getD t c 0) in
       written (p .kind) c (doing p w) (getD t c 0) (getD (cellsAt M p t w (At d)) c 0) (made c) rules (is ∙ ap At (sym z))
       (e ∙ ap (λ (b : ℕ). made b .content) (sym z)) ne

@@ -36,11 +36,12 @@ withWorker p w a = record {
   length = p .length;
   crew = p .crew;
   shut = p .shut;
+  hash = p .hash;
   workers = set (p .workers) w (record { activity = a });
 }
 
 abbrev pub shutPhase : Phase → Phase
-shutPhase p = record { kind = p .kind; length = p .length; crew = p .crew; shut = true; workers = p .workers }
+shutPhase p = record { kind = p .kind; length = p .length; crew = p .crew; shut = true; hash = p .hash; workers = p .workers }
 
 -- ---- what an order call in a phase of kind k asks for: an insert phase (put-in shift) reads the line that was found in the list lent, the others the
 -- worker w and the key v that are handed in
@@ -75,7 +76,7 @@ module _ (M : Model) (p : Phase) where
 
     -- the worker starts at its key's home
     abbrev pub orderedPhase : Phase
-    orderedPhase = withWorker p w (start label (M .home (p .length)) (entryFor (p .kind) v cents))
+    orderedPhase = withWorker p w (start label (M .home (p .hash) (p .length)) (entryFor (p .kind) v cents))
 
     abbrev pub ordered : Reply → Replied
     ordered Accepted = record { phase = orderedPhase; reply = Accepted }
@@ -104,12 +105,12 @@ module _ (M : Model) (p : Phase) where
     abbrev pub movedAt : Place → Turned
     movedAt Nowhere = record { phase = p; reply = turnReply.Answered answer.Idle }
     movedAt (At c) =
-        let o = rule (p .kind) (p .length) label (M .home (p .length)) (doing p w) (getD t c 0) in
+        let o = rule (p .kind) (p .length) label (M .home (p .hash) (p .length)) (doing p w) (getD t c 0) in
         record { phase = withWorker p w (o .activity); reply = turnReply.Answered (o .answer) }
 
     abbrev pub cellsAt : Place → List ℕ
     cellsAt Nowhere = t
-    cellsAt (At c) = set t c (rule (p .kind) (p .length) label (M .home (p .length)) (doing p w) (getD t c 0) .content)
+    cellsAt (At c) = set t c (rule (p .kind) (p .length) label (M .home (p .hash) (p .length)) (doing p w) (getD t c 0) .content)
 
     abbrev pub turned : Reply → Turned
     turned Accepted = movedAt (touched (doing p w))

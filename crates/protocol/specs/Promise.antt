@@ -6,8 +6,11 @@ use mathlib.Core.Bool.{Bool, true, false}
 use mathlib.Core.List.{List, [], _∷_, _++_}
 use Prim.Native.Nat.{ℕ, _≤_, _<_}
 use lib.ListN.{length, getD}
-use Rattle.ring.specs.Ring.{next}
-use Rattle.layout.specs.Sound.{Ordered}
+use Rattle.ring.specs.Ring.{next, prev}
+use Rattle.layout.specs.Sound.{OnPath, Ordered}
+use Rattle.homes.specs.Homes.{plain}
+use Rattle.homes.specs.Promise.{Even, Odd}
+use Rattle.homes.specs.declared.Hash.{Hash}
 use Rattle.prices.specs.Contents.{label, price, content, SoundTable}
 use Rattle.prices.specs.Priced.{labels}
 use Rattle.flaws.specs.Promise.{Intact, Damaged, Gapped, Disordered}
@@ -37,6 +40,13 @@ use Rattle.protocol.specs.declared.TurnReply.the-variants.{Answered}
 abbrev pub WellFormedPromise : Type 0
 WellFormedPromise = (M : Model) (p : Phase) → isWellFormed M p ≡ true ↔ WellFormed M p
 
+-- ---- 13 doesn't look at a and b: with others, odd or even, a phase state is as well formed
+abbrev pub withHash : Phase → Hash → Phase
+withHash p ab = record { kind = p .kind; length = p .length; crew = p .crew; shut = p .shut; hash = ab; workers = p .workers }
+
+abbrev pub HashUntestedPromise : Type 0
+HashUntestedPromise = (M : Model) (p : Phase) (ab : Hash) → WellFormed M (withHash p ab) ↔ WellFormed M p
+
 -- ---- no call spoils a phase state that is well formed, whether an opening and calls led to it or not
 pub record Keeps (M : Model) (p : Phase) : Type 0 where
   pub order : (os : List Order) (i w v : ℕ) → WellFormed M (orderCall M p os i w v .phase)
@@ -49,7 +59,7 @@ KeepsPromise = (M : Model) → Proper M → (p : Phase) → WellFormed M p → K
 -- ---- no record made by an opening and later calls is ever spoilt
 -- made by an opening, accepted or refused, and later calls, each with any numbers, any table and any list; the service call is the turn by its contract
 pub data Made (M : Model) : Phase → Type 0 where
-  opened : (k m : ℕ) (t : List ℕ) (os : List Order) → Made M (openCall M k m t os .phase)
+  opened : (k m : ℕ) (ab : Hash) (t : List ℕ) (os : List Order) → Made M (openCall M k m ab t os .phase)
   ordered : (p : Phase) → Made M p → (os : List Order) (i w v : ℕ) → Made M (orderCall M p os i w v .phase)
   turned : (p : Phase) → Made M p → (t : List ℕ) (w : ℕ) → Made M (turnCall M p t w .phase)
   closed : (p : Phase) → Made M p → Made M (closeCall M p .phase)
@@ -62,41 +72,44 @@ NeverSpoiltPromise = (M : Model) → Proper M → Size M 2 → Crew M 1 → (p :
 abbrev pub PlacesPromise : Type 0
 PlacesPromise = (M : Model) (p : Phase) → Made M p → length (p .workers) ≡ M .room
 
--- in document 01's model, with nothing left to assume
+-- in the documents' model, with nothing left to assume
 abbrev pub GatewayNeverSpoilt : Type 0
 GatewayNeverSpoilt = (p : Phase) → Made gateway p → WellFormed gateway p
 
 -- ---- open
-abbrev pub SoundIn : Model → List ℕ → Type 0
-SoundIn M t = SoundTable (length t) (M .home (length t)) t
+abbrev pub SoundIn : Model → Hash → List ℕ → Type 0
+SoundIn M ab t = SoundTable (length t) (M .home ab (length t)) t
 
--- the same in the documents' words: at least one cell is empty, a cell other than 0 has a key and a price from 1 to 9,999,999, and every key's path
--- holds only greater keys
-pub record Soundness (M : Model) (t : List ℕ) : Type 0 where
+-- the same in the documents' words, by a and b: at least one cell is empty, a cell other than 0 has a key and a price from 1 to 9,999,999, and every
+-- key's path holds only greater keys
+pub record Soundness (M : Model) (ab : Hash) (t : List ℕ) : Type 0 where
   pub intact : Intact t
-  pub ordered : Ordered (length t) (M .home (length t)) (labels label t)
+  pub ordered : Ordered (length t) (M .home ab (length t)) (labels label t)
 
 -- the lowest-numbered cell whose key breaks the order meets an empty cell first, or a key
-abbrev pub GappedIn : Model → List ℕ → Type 0
-GappedIn M t = Gapped (M .home (length t)) t
+abbrev pub GappedIn : Model → Hash → List ℕ → Type 0
+GappedIn M ab t = Gapped (M .home ab (length t)) t
 
-abbrev pub DisorderedIn : Model → List ℕ → Type 0
-DisorderedIn M t = Disordered (M .home (length t)) t
+abbrev pub DisorderedIn : Model → Hash → List ℕ → Type 0
+DisorderedIn M ab t = Disordered (M .home ab (length t)) t
 
 pub record SoundnessPromise : Type 0 where
-  pub words : (M : Model) (t : List ℕ) → SoundIn M t ↔ Soundness M t
-  pub kinds : (M : Model) → Proper M → (t : List ℕ) → Soundness M t ↔ (Intact t × (GappedIn M t → ⊥) × (DisorderedIn M t → ⊥))
+  pub words : (M : Model) (ab : Hash) (t : List ℕ) → SoundIn M ab t ↔ Soundness M ab t
+  pub kinds : (M : Model) → Proper M → (ab : Hash) (t : List ℕ) → Soundness M ab t ↔ (Intact t × (GappedIn M ab t → ⊥) × (DisorderedIn M ab t → ⊥))
 
--- of a table: its length, and soundness
+-- of a table: its length, a, and soundness
 abbrev pub sizeCases : Model → List ℕ → List Case
 sizeCases M t = wants 1 (Size M (length t)) ∷ []
 
-abbrev pub soundCases : Model → List ℕ → List Case
-soundCases M t = case 4 (Intact t) (Damaged t) ∷ forbids 17 (GappedIn M t) ∷ forbids 18 (DisorderedIn M t) ∷ []
+abbrev pub evenCases : Hash → List Case
+evenCases ab = case 21 (Odd (ab .a)) (Even (ab .a)) ∷ []
 
--- of the numbers handed in: 1, 2, 3
-abbrev pub limitCases : Model → ℕ → ℕ → List ℕ → List Case
-limitCases M k m t = sizeCases M t ++ wants 2 (Crew M m) ∷ wants 3 (Kind k) ∷ []
+abbrev pub soundCases : Model → Hash → List ℕ → List Case
+soundCases M ab t = case 4 (Intact t) (Damaged t) ∷ forbids 17 (GappedIn M ab t) ∷ forbids 18 (DisorderedIn M ab t) ∷ []
+
+-- of the numbers handed in: 1, 2, 3, 21
+abbrev pub limitCases : Model → ℕ → ℕ → Hash → List ℕ → List Case
+limitCases M k m ab t = sizeCases M t ++ wants 2 (Crew M m) ∷ wants 3 (Kind k) ∷ evenCases ab
 
 -- of the list: its length (16), and that it has too many labels (9)
 abbrev pub longCases : Model → List Order → List Case
@@ -106,41 +119,43 @@ abbrev pub fullCases : List ℕ → List Order → List Case
 fullCases t os = forbids 9 (Fills t os) ∷ []
 
 -- an insert phase (put-in shift): then 16, the table's 4, 17 and 18, the lines' 7, 14 and 6, and 9
-abbrev pub insertCases : Model → ℕ → ℕ → List ℕ → List Order → List Case
-insertCases M k m t os = limitCases M k m t ++ longCases M os ++ soundCases M t ++ lineCases m os ++ fullCases t os
+abbrev pub insertCases : Model → ℕ → ℕ → Hash → List ℕ → List Order → List Case
+insertCases M k m ab t os = limitCases M k m ab t ++ longCases M os ++ soundCases M ab t ++ lineCases m os ++ fullCases t os
 
 -- any other: then the table's 4, 17 and 18
-abbrev pub otherCases : Model → ℕ → ℕ → List ℕ → List Case
-otherCases M k m t = limitCases M k m t ++ soundCases M t
+abbrev pub otherCases : Model → ℕ → ℕ → Hash → List ℕ → List Case
+otherCases M k m ab t = limitCases M k m ab t ++ soundCases M ab t
 
--- a phase state of kind k, length n and m workers, shut or not, with places for all workers that the model allows, and all of them idle
-pub record Resting (M : Model) (k n m : ℕ) (ended : Bool) (p : Phase) : Type 0 where
+-- a phase state of kind k, length n and m workers, shut or not, by a and b, with places for all workers that the model allows, and all of them idle
+pub record Resting (M : Model) (k n m : ℕ) (ended : Bool) (ab : Hash) (p : Phase) : Type 0 where
   pub kind : p .kind ≡ k
   pub cells : p .length ≡ n
   pub crew : p .crew ≡ m
   pub shut : p .shut ≡ ended
+  pub hash : p .hash ≡ ab
   pub places : length (p .workers) ≡ M .room
   pub rest : (w : ℕ) → doing p w ≡ Idle
 
-pub record Openings (M : Model) (k m : ℕ) (t : List ℕ) (os : List Order) : Type 0 where
-  pub reply : openCall M k m t os .reply ≡ openReply M k m t os
-  pub inserts : k ≡ 1 → Decides (replyNumber (openCall M k m t os .reply)) (insertCases M k m t os)
-  pub others : k ≢ 1 → Decides (replyNumber (openCall M k m t os .reply)) (otherCases M k m t)
+pub record Openings (M : Model) (k m : ℕ) (ab : Hash) (t : List ℕ) (os : List Order) : Type 0 where
+  pub reply : openCall M k m ab t os .reply ≡ openReply M k m ab t os
+  pub inserts : k ≡ 1 → Decides (replyNumber (openCall M k m ab t os .reply)) (insertCases M k m ab t os)
+  pub others : k ≢ 1 → Decides (replyNumber (openCall M k m ab t os .reply)) (otherCases M k m ab t)
   -- an accepted opening had a sound table, and none on a sound table is refused with 4, 17 or 18
-  pub sound : Proper M → replyNumber (openCall M k m t os .reply) ≡ 0 → Soundness M t
-  pub never-unsound : Proper M → Soundness M t
-      → (replyNumber (openCall M k m t os .reply) ≢ 4) × (replyNumber (openCall M k m t os .reply) ≢ 17) × (replyNumber (openCall M k m t os .reply) ≢ 18)
-  -- a refused opening hands back a shut record of kind 3, length 2 and one worker, all idle
-  pub refused : replyNumber (openCall M k m t os .reply) ≢ 0 → Resting M 3 2 1 true (openCall M k m t os .phase)
+  pub sound : Proper M → replyNumber (openCall M k m ab t os .reply) ≡ 0 → Soundness M ab t
+  pub never-unsound : Proper M → Soundness M ab t
+      → (replyNumber (openCall M k m ab t os .reply) ≢ 4) × (replyNumber (openCall M k m ab t os .reply) ≢ 17)
+      × (replyNumber (openCall M k m ab t os .reply) ≢ 18)
+  -- a refused opening hands back a shut record of kind 3, length 2 and one worker, all idle, with a of 1 and b of 0
+  pub refused : replyNumber (openCall M k m ab t os .reply) ≢ 0 → Resting M 3 2 1 true plain (openCall M k m ab t os .phase)
   -- an accepted one an open record as it was asked for
-  pub accepted : replyNumber (openCall M k m t os .reply) ≡ 0 → Resting M k (length t) m false (openCall M k m t os .phase)
+  pub accepted : replyNumber (openCall M k m ab t os .reply) ≡ 0 → Resting M k (length t) m false ab (openCall M k m ab t os .phase)
   -- an insert phase opens with good lines alone
-  pub lines : k ≡ 1 → replyNumber (openCall M k m t os .reply) ≡ 0 → (i : ℕ) → i < length os → Good m (getD os i blank)
+  pub lines : k ≡ 1 → replyNumber (openCall M k m ab t os .reply) ≡ 0 → (i : ℕ) → i < length os → Good m (getD os i blank)
   -- outside insert phases the list is not read
-  pub unread : k ≢ 1 → (other : List Order) → openCall M k m t other ≡ openCall M k m t os
+  pub unread : k ≢ 1 → (other : List Order) → openCall M k m ab t other ≡ openCall M k m ab t os
 
 abbrev pub OpenPromise : Type 0
-OpenPromise = (M : Model) (k m : ℕ) (t : List ℕ) (os : List Order) → Openings M k m t os
+OpenPromise = (M : Model) (k m : ℕ) (ab : Hash) (t : List ℕ) (os : List Order) → Openings M k m ab t os
 
 -- ---- parts of the other calls' cases
 abbrev pub phaseCases : Model → Phase → List Case
@@ -154,11 +169,12 @@ abbrev pub workerCases : Phase → (w v : ℕ) → List Case
 workerCases p w v = numberCases p w ++ wants 8 (doing p w ≡ Idle) ∷ forbids 7 (v ≡ 0) ∷ []
 
 -- ---- what calls leave
--- two phase states of one kind, length and worker count, with as many places for workers
+-- two phase states of one kind, length and worker count, with one a and b, and with as many places for workers
 pub record Framed (p q : Phase) : Type 0 where
   pub kind : q .kind ≡ p .kind
   pub cells : q .length ≡ p .length
   pub crew : q .crew ≡ p .crew
+  pub hash : q .hash ≡ p .hash
   pub places : length (q .workers) ≡ length (p .workers)
 
 -- q is p but for worker w
@@ -187,9 +203,9 @@ handedCases M p w v = phaseCases M p ++ workerCases p w v
 -- q is p after an accepted order of key v, with its price, to worker w
 pub record Starts (M : Model) (p : Phase) (w v cents : ℕ) (q : Phase) : Type 0 where
   pub others : ButFor w p q
-  -- the worker starts at its key's home, with the price ordered. A list of workers has no fixed length; the code's array, and every list that calls make
-  -- (`PlacesPromise`), has a place for each worker
-  pub starts : w < length (p .workers) → doing q w ≡ Reading (content v cents) (M .home (p .length) v)
+  -- the worker starts at its key's home by the record's a and b, with the price ordered. A list of workers has no fixed length; the code's array, and
+  -- every list that calls make (`PlacesPromise`), has a place for each worker
+  pub starts : w < length (p .workers) → doing q w ≡ Reading (content v cents) (M .home (p .hash) (p .length) v)
 
 pub record Orders (M : Model) (p : Phase) (os : List Order) (i w v : ℕ) : Type 0 where
   pub inserts : p .kind ≡ 1 → Decides (replyNumber (orderCall M p os i w v .reply)) (lineOrderCases M p os i)
@@ -268,6 +284,39 @@ pub record Turns (M : Model) (p : Phase) (t : List ℕ) (w : ℕ) : Type 0 where
 
 abbrev pub TurnPromise : Type 0
 TurnPromise = (M : Model) (p : Phase) (t : List ℕ) (w : ℕ) → Turns M p t w
+
+-- ---- turns that depend on a key's home: those of a delete, by the record's a and b, odd or even
+abbrev pub homeIn : Model → Phase → ℕ → ℕ
+homeIn M p = M .home (p .hash) (p .length)
+
+-- the content of cell j may replace that of cell i: it is empty, or its key's path passes cell i
+abbrev pub Serves : Model → Phase → List ℕ → (j i : ℕ) → Type 0
+Serves M p t j i = (label (getD t j 0) ≡ 0) ⊎ OnPath (p .length) (homeIn M p) (label (getD t j 0)) j i
+
+-- a worker that has read cell q and has taken the content x of cell j for cell i, which holds v: it walks back to the cell before q, and is about to replace
+-- if that is cell i
+abbrev pub Taken : (n q v i j x : ℕ) → Activity → Type 0
+Taken n q v i j x a = ((prev n q ≡ i) × (a ≡ Replacing v i j x)) ⊎ ((prev n q ≢ i) × (a ≡ SeekingBack (prev n q) v i j x))
+
+pub record Homing (M : Model) (p : Phase) (t : List ℕ) (w : ℕ) : Type 0 where
+  -- on its way back, at a cell that does not hold its key: it finishes at the key's home, and nowhere else
+  pub ends : (v i : ℕ) → doing p w ≡ WalkingBack v i → label (getD t i 0) ≢ label v → i ≡ homeIn M p (label v)
+      → turnCall M p t w .reply ≡ Answered Finished
+  pub walks : (v i : ℕ) → doing p w ≡ WalkingBack v i → label (getD t i 0) ≢ label v → i ≢ homeIn M p (label v)
+      → doing (turnCall M p t w .phase) w ≡ WalkingBack v (prev (p .length) i)
+  -- seeking a replacement for cell i: the first cell that serves is taken, and any other is gone past
+  pub takes : (v i j : ℕ) → doing p w ≡ SeekingForward v i j → Serves M p t j i
+      → Taken (p .length) j v i j (getD t j 0) (doing (turnCall M p t w .phase) w)
+  pub passes : (v i j : ℕ) → doing p w ≡ SeekingForward v i j → (Serves M p t j i → ⊥)
+      → doing (turnCall M p t w .phase) w ≡ SeekingForward v i (next (p .length) j)
+  -- and on the way back from cell j, at cell q: one that serves is nearer, with any other the content x taken in cell j is kept
+  pub nearer : (q v i j x : ℕ) → doing p w ≡ SeekingBack q v i j x → Serves M p t q i
+      → Taken (p .length) q v i q (getD t q 0) (doing (turnCall M p t w .phase) w)
+  pub keeps : (q v i j x : ℕ) → doing p w ≡ SeekingBack q v i j x → (Serves M p t q i → ⊥)
+      → Taken (p .length) q v i j x (doing (turnCall M p t w .phase) w)
+
+abbrev pub HomingPromise : Type 0
+HomingPromise = (M : Model) (p : Phase) (t : List ℕ) (w : ℕ) → turnNumber (turnCall M p t w .reply) ≡ 0 → p .kind ≡ 2 → Homing M p t w
 
 -- ---- close
 -- some operation (order) is unfinished

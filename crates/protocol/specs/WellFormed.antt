@@ -1,4 +1,4 @@
--- Document 01's sentence on ill-formed (spoilt) phase states, as a proposition; the calls go by the test `isWellFormed`.
+-- Document 01's sentence on ill-formed (spoilt) phase states, as a proposition; the calls go by the test `isWellFormed`. a and b are not tested.
 use mathlib.Core.Path.{_≡_}
 use Prim.Native.Nat.{ℕ, _≤_, _<_}
 use Rattle.prices.specs.Contents.{label}

@@ -1,4 +1,5 @@
-// The calls on a table at rest: check, count and list. They need no phase.
+// The calls on a table at rest: check, count and list, each by the hash function that the table is used with. They need no phase.
+use homes::Hash;
 use state::Counted;
 use state::Phase;
 use state::Refusal;
@@ -8,18 +9,18 @@ ghost use denote.Ref.{ptr};
 ghost use Rattle.state.specs.Model.{gateway};
 ghost use Rattle.tables.specs.Calls.{checkCall, countCall, listCall, listAfter, listFront};
 
-// Whether the table is sound or, if it is not, why.
-pub fn check(cells: &[u64]) -> Reply
-    ensures { λ r. ⌜ r ≡ checkCall gateway (now (cells .entry)) ⌝ }
+// Whether a table may have its length and its hash function, and is sound or, if it is not, why.
+pub fn check(hash: Hash, cells: &[u64]) -> Reply
+    ensures { λ r. ⌜ r ≡ checkCall gateway hash (now (cells .entry)) ⌝ }
 {
-    Phase::check(cells)
+    Phase::check(hash, cells)
 }
 
 // How many keys the table has.
-pub fn count(cells: &[u64]) -> Counted
-    ensures { λ r. ⌜ r ≡ countCall gateway (now (cells .entry)) ⌝ }
+pub fn count(hash: Hash, cells: &[u64]) -> Counted
+    ensures { λ r. ⌜ r ≡ countCall gateway hash (now (cells .entry)) ⌝ }
 {
-    let checked = check(cells);
+    let checked = check(hash, cells);
     match checked {
         Reply::Accepted => Counted::Count(listing::count_keys(cells)),
         Reply::Refused(why) => Counted::Refused(why),
@@ -27,10 +28,11 @@ pub fn count(cells: &[u64]) -> Counted
 }
 
 // Lists the entries, each key with its price, in cell order at the front of `out`.
-pub fn list(cells: &[u64], out: &mut [u64]) -> Counted
-    ensures { λ r. ⌜ (r ≡ listCall gateway (now (cells .entry)) (now (out .entry))) × (now (out .exit) ≡ listAfter gateway (now (cells .entry)) (now (out .entry))) ⌝ }
+pub fn list(hash: Hash, cells: &[u64], out: &mut [u64]) -> Counted
+    ensures { λ r. ⌜ (r ≡ listCall gateway hash (now (cells .entry)) (now (out .entry)))
+        × (now (out .exit) ≡ listAfter gateway hash (now (cells .entry)) (now (out .entry))) ⌝ }
 {
-    let counted = count(cells);
+    let counted = count(hash, cells);
     match counted {
         Counted::Refused(why) => Counted::Refused(why),
         Counted::Count(count) => {
@@ -45,10 +47,10 @@ pub fn list(cells: &[u64], out: &mut [u64]) -> Counted
 }
 
 // The same, handing back the filled front part of `out`: it begins where `out` does.
-pub fn list_front<'a>(cells: &[u64], out: &'a mut [u64]) -> &'a mut [u64]
-    ensures { λ r. ⌜ (now r ≡ listFront gateway (now (cells .entry)) (now (out .entry))) × (ptr r ≡ ptr (out .entry)) ⌝ }
+pub fn list_front<'a>(hash: Hash, cells: &[u64], out: &'a mut [u64]) -> &'a mut [u64]
+    ensures { λ r. ⌜ (now r ≡ listFront gateway hash (now (cells .entry)) (now (out .entry))) × (ptr r ≡ ptr (out .entry)) ⌝ }
 {
-    let listed = list(cells, out);
+    let listed = list(hash, cells, out);
     match listed {
         Counted::Count(count) => &mut out[..count],
         Counted::Refused(_) => &mut out[..0],

@@ -1,4 +1,6 @@
+pub mod Hashes
 pub mod Lines
+pub mod Made
 pub mod Ran
 pub mod Texts
 pub mod Theorem

@@ -7,13 +7,14 @@ use Prim.Native.Nat.{ℕ, _≤_, _<_}
 use native.Mathlib.Omega.{arith}
 use borrow.Author.Tests.{lt-ltb, le-ltb, eq-eqb, ne-eqb}
 use lib.Dec.{ltb}
-use lib.ListN.{length, getD, take, length-map}
+use lib.ListN.{length, getD, take, replicate, length-map}
+use Rattle.homes.specs.Homes.{hashOf}
 use Rattle.orders.specs.declared.Order.{Order}
 use Rattle.words.specs.Words.{entriesOf, countOf}
 use Rattle.words.proofs.Theorem.{theorem as listing}
 use Rattle.words.proofs.Words.{occupied-le}
 use Rattle.state.specs.Model.{gateway}
-use Rattle.state.specs.Open.{openCall}
+use Rattle.state.specs.Refusals.{replyNumber}
 use Rattle.state.specs.declared.Refusal.{Refusal}
 use Rattle.state.specs.declared.Replied.{Replied}
 use Rattle.state.specs.declared.Reply.{Reply}
@@ -25,7 +26,7 @@ use Rattle.tables.proofs.Answers.{list-by}
 use Rattle.protocol.specs.Calls as protocol
 use Rattle.protocol.specs.Calls.{closeReply, closeCall, orderCall, turnCall}
 use Rattle.protocol.proofs.Chain.{by-reply}
-use Rattle.protocol.proofs.Theorem.{orders}
+use Rattle.protocol.proofs.Theorem.{opens, orders, turns}
 use Rattle.text.specs.Bytes.{bytesOf}
 use Rattle.text.specs.Digits.{digitsOf}
 use Rattle.text.specs.Fields.{fieldsOf}
@@ -47,7 +48,8 @@ use Rattle.printing.specs.Fields.{replyFields, finishFields, toldFields}
 use Rattle.sheet.specs.Replay.{State, Step, Answer, answered, answerOf, noFinishes, mostSheetCells, cellsTask, itemsAfter, commanded, listTold}
 use Rattle.sheet.specs.Promise.{line, FirstIs, greatest, InRange, Unreadable, refusedText, workersText, finishText, stateWith, Does, Bad}
 use Rattle.sheet.specs.Promise.{InShut, InOpen, InEither}
-use Rattle.sheet.proofs.Ran.{run-crew, run-places}
+use Rattle.sheet.proofs.Hashes.{order-hash, close-hash}
+use Rattle.sheet.proofs.Ran.{run-crew, run-hash, run-places}
 use Rattle.sheet.proofs.Texts.{reply-text, turn-text, list-text, workers-text}
 use Rattle.sheet.proofs.Unreadable.{fields-written}
 use Rattle.sheet.proofs.Written.{order-first, nameOf, lineWith, read-line, fits-form, unreadable-fits, first-says, says-first}
@@ -120,11 +122,17 @@ module _ (s : State) where
   -- ---- a shut phase
   module _ (shut : s .phase .shut ≡ true) where
     -- `cells` and a number, by its two tests
-    cells-by : (n : ℕ) → n ≤ greatest → answerOf s (readingOf (line "cells" (n ∷ []))) ≡ answered s (Todo (Perform Command.Cells)) (n ∷ 0 ∷ 0 ∷ [])
+    cells-by : (n : ℕ) → n ≤ greatest → answerOf s (readingOf (line "cells" (n ∷ []))) ≡ answered s (Todo (Perform Command.Cells)) (n ∷ 0 ∷ 0 ∷ 0 ∷ [])
     cells-by n h = answer-written Command.Cells (n ∷ []) refl (omega arith) (h, tt) (Todo (Perform Command.Cells)) (rw shut)
 
     too-many : (n : ℕ) → ((2 ≤ n) × (n ≤ 4096) → ⊥) → 2 ≤ n → 4096 < n
     too-many n h few = by-lt 4096 n (λ more. more) (λ fits. absurd (h (few, fits)))
+
+    -- `open` and its numbers, by what the opening answers
+    opens-by : (k m a b : ℕ) → k ≤ greatest → m ≤ greatest → a ≤ greatest → b ≤ greatest
+        → answerOf s (readingOf (line "open" (k ∷ m ∷ a ∷ b ∷ []))) ≡ answered s (Todo (Perform Command.Open)) (k ∷ m ∷ a ∷ b ∷ [])
+    opens-by k m a b f g x y =
+        answer-written Command.Open (k ∷ m ∷ a ∷ b ∷ []) refl (omega arith) (f, (g, (x, (y, tt)))) (Todo (Perform Command.Open)) (rw shut)
 
     pub in-shut : InShut s
     unfolding bytesOf
@@ -132,8 +140,9 @@ module _ (s : State) where
       cells = λ n few fits. cells-by n (omega arith) ∙ rw (le-ltb n 2 few, le-ltb 4096 n fits);
       cells-refused = λ n range h. cells-by n range
           ∙ by-lt n 2 (λ fewer. rw (lt-ltb n 2 fewer)) (λ few. rw (le-ltb n 2 few, lt-ltb 4096 n (too-many n h few)));
-      opening = λ k m a b. answer-written Command.Open (k ∷ m ∷ []) refl (omega arith) (a, (b, tt)) (Todo (Perform Command.Open)) (rw shut)
-          ∙ rw (reply-text (openCall gateway k m (s .table) (s .items) .reply));
+      opening = λ k m a b f g x y e. opens-by k m a b f g x y ∙ rw e;
+      opening-refused = λ k m a b f g x y r e. opens-by k m a b f g x y ∙ rw e;
+      opening-hash = λ k m a b e. opens gateway k m (hashOf a b) (s .table) (s .items) .accepted (ap replyNumber e) .hash;
       item = λ w v cents a b d room. answer-written Command.Item (w ∷ v ∷ cents ∷ []) refl (omega arith) (a, (b, (d, tt))) (Todo (Perform Command.Item))
           (rw (shut, lt-ltb (length (s .items)) 1024 room));
       item-full = λ full l e. is-bad l (rw (shut, first-says l Command.Item refl e, le-ltb (length (s .items)) 1024 full));
@@ -197,14 +206,14 @@ module _ (s : State) where
 
   -- ---- shut or open
   -- the list call's count is that of the keys: there is always room for them
-  all-listed : checkCall gateway (s .table) ≡ Accepted → listCall gateway (s .table) (s .table) ≡ counted.Count (length (entriesOf (s .table)))
+  all-listed : checkCall gateway (s .phase .hash) (s .table) ≡ Accepted → listCall gateway (s .phase .hash) (s .table) (s .table) ≡ counted.Count (length (entriesOf (s .table)))
   all-listed e =
       let t = s .table in
       let count : countOf t ≡ length (entriesOf t) = listing t .count ∙ sym (listing t .long) in
       let fits : countOf t ≤ length t = omega (arith, listing t .count, occupied-le t) in
-      list-by gateway t t Accepted e ∙ rw (le-ltb (length t) (countOf t) fits, count)
+      list-by gateway (s .phase .hash) t t Accepted e ∙ rw (le-ltb (length t) (countOf t) fits, count)
 
-  listed-as : (a : Counted) → listCall gateway (s .table) (s .table) ≡ a
+  listed-as : (a : Counted) → listCall gateway (s .phase .hash) (s .table) (s .table) ≡ a
       → answerOf s (readingOf (line "list" [])) ≡ answering s (toldFields (listTold a) (s .phase .crew) noFinishes (s .table))
   listed-as a e = answer-written Command.List [] refl (omega arith) tt (Todo (Perform Command.List)) (in-either-way (s .phase .shut) Command.List)
       ∙ ap (λ (a : Counted). answering s (toldFields (listTold a) (s .phase .crew) noFinishes (s .table))) e
@@ -228,12 +237,13 @@ module _ (s : State) where
   kept-items Accepted ne = rw (ne-eqb (s .phase .kind) 1 ne)
   kept-items (Refused r) ne = refl
 
-  cells-items : (n : ℕ) → cellsTask s n .state .items ≡ s .items
-  cells-items n = tested (λ (d : Step). d .state .items ≡ s .items) (ltb n 2) (λ _. refl)
-      (λ _. tested (λ (d : Step). d .state .items ≡ s .items) (ltb mostSheetCells n) (λ _. refl) (λ _. refl))
+  -- `cells` leaves all as it was, or another table
+  pub cells-keeps : (P : State → Type 0) (n : ℕ) → P s → ((t : List ℕ) → P (stateWith (s .phase) t (s .items))) → P (cellsTask s n .state)
+  cells-keeps P n same other = tested (λ (d : Step). P (d .state)) (ltb n 2) (λ _. same)
+      (λ _. tested (λ (d : Step). P (d .state)) (ltb mostSheetCells n) (λ _. same) (λ _. other (replicate n 0)))
 
   task-items : (d : Command) (ns : List ℕ) → d ≢ Command.Item → d ≢ Command.Close → commanded s d ns .state .items ≡ s .items
-  task-items Command.Cells ns item close = cells-items (getD ns 0 0)
+  task-items Command.Cells ns item close = cells-keeps (λ (x : State). x .items ≡ s .items) (getD ns 0 0) refl (λ t. refl)
   task-items Command.Open ns item close = refl
   task-items Command.Item ns item close = absurd (item refl)
   task-items Command.Order ns item close = refl
@@ -243,20 +253,41 @@ module _ (s : State) where
   task-items Command.List ns item close = refl
   task-items Command.Unknown ns item close = refl
 
-  keeps-items : (l : List ℕ) → (FirstIs (bytesOf "item") l → ⊥) → (FirstIs (bytesOf "close") l → ⊥) → answerOf s (readingOf l) .state .items ≡ s .items
+  -- ---- a and b
+  task-hash : (d : Command) (ns : List ℕ) → d ≢ Command.Open → commanded s d ns .state .phase .hash ≡ s .phase .hash
+  task-hash Command.Cells ns other = cells-keeps (λ (x : State). x .phase .hash ≡ s .phase .hash) (getD ns 0 0) refl (λ t. refl)
+  task-hash Command.Open ns other = absurd (other refl)
+  task-hash Command.Item ns other = refl
+  task-hash Command.Order ns other = order-hash s (getD ns 0 0) (getD ns 0 0) (getD ns 1 0)
+  task-hash Command.Turn ns other = turns gateway (s .phase) (s .table) (getD ns 0 0) .others .frame .hash
+  task-hash Command.Run ns other = run-hash gateway (s .phase) (s .table)
+  task-hash Command.Close ns other = close-hash s
+  task-hash Command.List ns other = refl
+  task-hash Command.Unknown ns other = refl
+
+  -- ---- what a line leaves, by its command where it is carried out
+  pub line-keeps : (l : List ℕ) (P : State → Type 0) → P s
+      → ((d : Command) → readingOf l .command ≡ d → P (commanded s d (readingOf l .numbers .values) .state)) → P (answerOf s (readingOf l) .state)
   unfolding answerOf
-  keeps-items l item close = by-reading (asked (readingOf l)) refl
+  line-keeps l P same carried = by-reading (asked (readingOf l)) refl
     where
-      by-reading : (r : Reading) → asked (readingOf l) ≡ r → answered s r (readingOf l .numbers .values) .state .items ≡ s .items
+      by-reading : (r : Reading) → asked (readingOf l) ≡ r → P (answered s r (readingOf l .numbers .values) .state)
       by-reading (Todo (Perform d)) e =
           let x = readingOf l in
           let row = rowOf (s .phase .kind) (length (s .items)) (x .command) in
-          let is : x .command ≡ d = handled-performed (handlingIn (s .phase .shut) row) (fitsRow row (x .numbers)) (x .command) d e .1 in
-          task-items d (readingOf l .numbers .values)
-          (λ z. item (says-first l Command.Item refl (is ∙ z)))
-          (λ z. close (says-first l Command.Close refl (is ∙ z)))
-      by-reading (Todo Refuse) e = refl
-      by-reading reading.Bad e = refl
+          carried d (handled-performed (handlingIn (s .phase .shut) row) (fitsRow row (x .numbers)) (x .command) d e .1)
+      by-reading (Todo Refuse) e = same
+      by-reading reading.Bad e = same
+
+  keeps-items : (l : List ℕ) → (FirstIs (bytesOf "item") l → ⊥) → (FirstIs (bytesOf "close") l → ⊥) → answerOf s (readingOf l) .state .items ≡ s .items
+  keeps-items l item close = line-keeps l (λ (x : State). x .items ≡ s .items) refl (λ d is.
+      task-items d (readingOf l .numbers .values)
+      (λ z. item (says-first l Command.Item refl (is ∙ z)))
+      (λ z. close (says-first l Command.Close refl (is ∙ z))))
+
+  keeps-hash : (l : List ℕ) → (FirstIs (bytesOf "open") l → ⊥) → answerOf s (readingOf l) .state .phase .hash ≡ s .phase .hash
+  keeps-hash l other = line-keeps l (λ (x : State). x .phase .hash ≡ s .phase .hash) refl (λ d is.
+      task-hash d (readingOf l .numbers .values) (λ z. other (says-first l Command.Open refl (is ∙ z))))
 
   pub in-either : InEither s
   unfolding bytesOf
@@ -269,6 +300,7 @@ module _ (s : State) where
     close-refused = λ r e. closed ∙ rw (e, refused-phase r e);
     close-clears = λ is e. closed ∙ rw (e, eq-eqb (s .phase .kind) 1 is);
     list = λ e. listed-as (counted.Count (length (entriesOf (s .table)))) (all-listed e) ∙ ap (answering s) (list-text (entriesOf (s .table)));
-    list-refused = λ r e. listed-as (counted.Refused r) (list-by gateway (s .table) (s .table) (Refused r) e);
+    list-refused = λ r e. listed-as (counted.Refused r) (list-by gateway (s .phase .hash) (s .table) (s .table) (Refused r) e);
+    keeps-hash = keeps-hash;
     keeps-items = keeps-items;
   }

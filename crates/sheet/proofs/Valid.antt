@@ -7,6 +7,8 @@ use native.Mathlib.Omega.{arith}
 use lib.Dec.{ltb, eqb}
 use lib.ListN.{length, getD, length-append, length-replicate}
 use borrow.Author.Tests.{ltb-false, le-ltb}
+use Rattle.homes.specs.Homes.{hashOf}
+use Rattle.homes.specs.declared.Hash.{Hash}
 use Rattle.orders.specs.Orders.{orderWith, lineAt}
 use Rattle.orders.specs.declared.Order.{Order}
 use Rattle.history.specs.History as history
@@ -14,8 +16,7 @@ use Rattle.protocol.proofs.Chain.{by-reply}
 use Rattle.ring.proofs.Tests.{tested}
 use Rattle.state.specs.Model.{gateway}
 use Rattle.state.proofs.Model.{gateway-proper}
-use Rattle.state.specs.Open as opening
-use Rattle.state.specs.Open.{openReply, openCall}
+use Rattle.state.specs.Open.{openReply}
 use Rattle.state.specs.declared.Phase.{Phase}
 use Rattle.state.specs.declared.Reply.{Reply}
 use Rattle.state.specs.declared.Reply.the-variants as reply
@@ -24,7 +25,6 @@ use Rattle.protocol.specs.Calls.{orderCall}
 use Rattle.text.proofs.Test.{by-test, by-lt}
 use Rattle.lines.specs.declared.Command.{Command}
 use Rattle.lines.specs.declared.Line.{Line}
-use Rattle.dealing.specs.Reached.{Reached}
 use Rattle.dealing.specs.Deal.{run}
 use Rattle.dealing.proofs.Reached.{order-from, turn-from}
 use Rattle.dealing.proofs.Settling.{turn-shut, turn-length, run-reached, run-length}
@@ -34,7 +34,7 @@ use Rattle.fitting.specs.declared.Handling.the-variants.{Performed, Refused, Ba
 use Rattle.fitting.specs.declared.Task.{Task}
 use Rattle.fitting.specs.declared.Task.the-variants.{Perform, Refuse}
 use Rattle.fitting.specs.Fitting.{mostItems, rowOf, handlingIn, readingIn}
-use Rattle.sheet.specs.Replay.{State, Step, calls, cellsTask, itemTask, turnTask, runTask, itemsAfter}
+use Rattle.sheet.specs.Replay.{State, Step, calls, cellsTask, openTask, itemTask, turnTask, runTask, itemsAfter}
 use Rattle.sheet.specs.Replay.{closeTask, commanded, answered, answerOf, blank, mostSheetCells}
 use Rattle.sheet.specs.Valid.{Valid, RunFinds}
 use Rattle.fitting.proofs.Fitting.{performs}
@@ -45,13 +45,6 @@ never b e f = absurd (let z : _≡_ {A = ℕ} 0 1 = cc in omega arith)
 
 pub blank-valid : Valid blank
 blank-valid = record { few = omega arith; items = omega arith; reached = λ f. never true refl f }
-
--- ---- openings
-opened-reached : (k m : ℕ) (t : List ℕ) (os : List Order) (a : Reply) → openReply gateway k m t os ≡ a
-    → opening.opened gateway k m t a .phase .shut ≡ false → Reached gateway os (opening.opened gateway k m t a .phase) t
-opened-reached k m t os reply.Accepted e f =
-    record { kind = k; crew = m; opened = t; by = record { calls = []; accepted = e; phase = unfold history.run in (rw e); table = unfold history.run in refl } }
-opened-reached k m t os (reply.Refused r) e f = never true refl f
 
 -- ---- orders leave a shut phase shut
 order-shut : (p : Phase) (os : List Order) (i w v : ℕ) → orderCall gateway p os i w v .phase .shut ≡ p .shut
@@ -73,12 +66,22 @@ module _ (s : State) (v : Valid s) where
         reached = λ f. never (s .phase .shut) e f;
       }))
 
-  open-kept : (k m : ℕ) → Valid (calls (s .table) (s .items) (openCall gateway k m (s .table) (s .items)) .state)
-  open-kept k m = record {
-    few = v .few;
-    items = v .items;
-    reached = opened-reached k m (s .table) (s .items) (openReply gateway k m (s .table) (s .items)) refl;
-  }
+  -- an accepted opening leads to its phase; a refused one leaves all as it was
+  open-kept : (k m : ℕ) (ab : Hash) → Valid (openTask s k m ab .state)
+  open-kept k m ab = by-reply (openReply gateway k m ab (s .table) (s .items))
+      (λ e. rw e
+      (record {
+        few = v .few;
+        items = v .items;
+        reached = λ _. record {
+          kind = k;
+          crew = m;
+          hash = ab;
+          opened = s .table;
+          by = record { calls = []; accepted = e; phase = unfold history.run in (rw e); table = unfold history.run in refl };
+        };
+      }))
+      (λ _ e. rw e v)
 
   item-kept : (w x cents : ℕ) → s .phase .shut ≡ true → length (s .items) < mostItems → Valid (itemTask s w x cents .state)
   item-kept w x cents e room = record {
@@ -95,8 +98,9 @@ module _ (s : State) (v : Valid s) where
         record {
           kind = h .kind;
           crew = h .crew;
+          hash = h .hash;
           opened = h .opened;
-          by = order-from gateway gateway-proper (h .kind) (h .crew) (h .opened) (s .items) (s .phase) (s .table) (h .by) i w x;
+          by = order-from gateway gateway-proper (h .kind) (h .crew) (h .hash) (h .opened) (s .items) (s .phase) (s .table) (h .by) i w x;
         };
   }
 
@@ -108,8 +112,9 @@ module _ (s : State) (v : Valid s) where
         record {
           kind = h .kind;
           crew = h .crew;
+          hash = h .hash;
           opened = h .opened;
-          by = turn-from gateway gateway-proper (h .kind) (h .crew) (h .opened) (s .items) (s .phase) (s .table) (h .by) w;
+          by = turn-from gateway gateway-proper (h .kind) (h .crew) (h .hash) (h .opened) (s .items) (s .phase) (s .table) (h .by) w;
         };
   }
 
@@ -121,16 +126,17 @@ module _ (s : State) (v : Valid s) where
   }
 
   -- an accepted close leaves a shut phase, whatever items; a refused one leaves all as it was
-  closed-kept : (a : Reply) → Valid (calls (s .table) (itemsAfter (s .phase .kind) a (s .items)) (call.closed gateway (s .phase) a) .state)
-  closed-kept reply.Accepted = record {
+  closed-kept : (a : Reply) → call.closeReply gateway (s .phase) ≡ a
+      → Valid (calls (s .table) (itemsAfter (s .phase .kind) a (s .items)) (call.closed gateway (s .phase) a) .state)
+  closed-kept reply.Accepted e = record {
     few = v .few;
     items = tested (λ (os : List Order). length os ≤ mostItems) (eqb (s .phase .kind) 1) (λ _. omega arith) (λ _. v .items);
     reached = λ f. never true refl f;
   }
-  closed-kept (reply.Refused r) = v
+  closed-kept (reply.Refused r) e = v
 
   close-kept : Valid (closeTask s .state)
-  close-kept = by-reply (call.closeReply gateway (s .phase)) (λ e. rw e (closed-kept reply.Accepted)) (λ r e. rw e (closed-kept (reply.Refused r)))
+  close-kept = by-reply (call.closeReply gateway (s .phase)) (λ e. rw e (closed-kept reply.Accepted e)) (λ r e. rw e (closed-kept (reply.Refused r) e))
 
   -- ---- every command, where it is carried out: `cells` and `item` in a shut phase only, and `run` in an open one only
   abbrev Allowed : Command → Type 0
@@ -156,7 +162,7 @@ module _ (s : State) (v : Valid s) where
 
   command-kept : (c : Command) (ns : List ℕ) → Allowed c → Valid (commanded s c ns .state)
   command-kept Command.Cells ns h = cells-kept (getD ns 0 0) (cells-shut h)
-  command-kept Command.Open ns h = open-kept (getD ns 0 0) (getD ns 1 0)
+  command-kept Command.Open ns h = open-kept (getD ns 0 0) (getD ns 1 0) (hashOf (getD ns 2 0) (getD ns 3 0))
   command-kept Command.Item ns h = item-kept (getD ns 0 0) (getD ns 1 0) (getD ns 2 0) (item-shut h) (item-room h)
   command-kept Command.Order ns h = order-kept (getD ns 0 0) (getD ns 0 0) (getD ns 1 0)
   command-kept Command.Turn ns h = turn-kept (getD ns 0 0)

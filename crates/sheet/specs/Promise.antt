@@ -1,5 +1,5 @@
 -- What is promised of each line of a shift sheet: from its bytes to the state behind it and the bytes printed behind its number, in document 01's words
--- ("The shift sheet") and in those of document 02, point 2 (`item`, `order`). Proved in proofs/Theorem.
+-- ("The shift sheet") and in those of document 02, points 2 (`item`, `order`) and 6 (`open`, `list`). Proved in proofs/Theorem.
 use mathlib.Core.Path.{_≡_}
 use mathlib.Core.Logic.{_≢_, _⊎_}
 use mathlib.Core.Bool.{true, false, cond}
@@ -8,6 +8,7 @@ use Prim.Native.Nat.{ℕ, zero, suc, _≤_, _<_}
 use Prim.Native.String.{String}
 use lib.Dec.{eqb}
 use lib.ListN.{length, getD, replicate}
+use Rattle.homes.specs.Homes.{hashOf}
 use Rattle.prices.specs.Contents.{label, price}
 use Rattle.orders.specs.declared.Order.{Order}
 use Rattle.words.specs.Words.{entriesOf}
@@ -18,7 +19,7 @@ use Rattle.state.specs.Open.{openCall}
 use Rattle.state.specs.Refusals.{numberOf}
 use Rattle.state.specs.declared.Phase.{Phase}
 use Rattle.state.specs.declared.Refusal.{Refusal}
-use Rattle.state.specs.declared.Refusal.the-variants.{Shut, LongList}
+use Rattle.state.specs.declared.Refusal.the-variants.{Shut, LongList, Even}
 use Rattle.state.specs.declared.Replied.{Replied}
 use Rattle.state.specs.declared.Reply.{Reply}
 use Rattle.state.specs.declared.Reply.the-variants.{Accepted, Refused}
@@ -35,7 +36,7 @@ use Rattle.dealing.specs.Promise.{Runs, Tells}
 use Rattle.dealing.specs.declared.Ended.{Ended}
 use Rattle.dealing.specs.declared.Finish.{Finish}
 use Rattle.sheet.specs.Replay.{State, blank, answerOf}
-use Rattle.sheet.specs.Valid.{Valid}
+use Rattle.sheet.specs.Valid.{Valid, ByCalls}
 
 -- ---- lines
 -- numbers, each behind a tab
@@ -71,7 +72,7 @@ form word count = record { word = word; count = count }
 abbrev pub forms : ℕ → List Form
 forms k =
     form "cells" 1
-    ∷ form "open" 2
+    ∷ form "open" 4
     ∷ form "item" 3
     ∷ form "order" (cond (eqb k 1) 1 2)
     ∷ form "turn" 1
@@ -149,6 +150,10 @@ Does s l s′ text = answerOf s (readingOf l) ≡ record { state = s′; printed
 abbrev pub Replies : State → List ℕ → Replied → Type 0
 Replies s l r = Does s l (stateWith (r .phase) (s .table) (s .items)) (replyText (r .reply))
 
+-- the opening that a line `open` asks for: it is lent the items
+abbrev pub openingOf : State → (k m a b : ℕ) → Replied
+openingOf s k m a b = openCall gateway k m (hashOf a b) (s .table) (s .items)
+
 -- it answers `bad` and ends the replay; nothing changes
 abbrev pub Bad : State → List ℕ → Type 0
 Bad s l = answerOf s (readingOf l) ≡ record { state = s; printed = bytesOf "\tbad\n"; ended = true }
@@ -165,8 +170,13 @@ pub record InShut (s : State) : Type 0 where
       (stateWith (s .phase) (s .table) (s .items ++ (record { key = v; price = cents; worker = w } ∷ []))) (bytesOf "\tok")
   -- past 1,024 items it is `bad`
   pub item-full : 1024 ≤ length (s .items) → (l : List ℕ) → FirstIs (bytesOf "item") l → Bad s l
-  -- `open` kind count: the opening is lent the items, and whatever it answers they are kept
-  pub opening : (k m : ℕ) → k ≤ greatest → m ≤ greatest → Replies s (line "open" (k ∷ m ∷ [])) (openCall gateway k m (s .table) (s .items))
+  -- `open` kind count a b: the opening is lent the items, and whatever it answers they are kept; a refused one changes nothing
+  pub opening : (k m a b : ℕ) → k ≤ greatest → m ≤ greatest → a ≤ greatest → b ≤ greatest → openingOf s k m a b .reply ≡ Accepted
+      → Replies s (line "open" (k ∷ m ∷ a ∷ b ∷ [])) (openingOf s k m a b)
+  pub opening-refused : (k m a b : ℕ) → k ≤ greatest → m ≤ greatest → a ≤ greatest → b ≤ greatest → (r : Refusal) → openingOf s k m a b .reply ≡ Refused r
+      → Does s (line "open" (k ∷ m ∷ a ∷ b ∷ [])) s (refusedText (numberOf r))
+  -- an accepted one leaves its a and b
+  pub opening-hash : (k m a b : ℕ) → openingOf s k m a b .reply ≡ Accepted → openingOf s k m a b .phase .hash ≡ hashOf a b
   -- in a shut shift `run` and every line whose first field is `order` answer 11
   pub run : Does s (line "run" []) s (refusedText 11)
   pub order : (l : List ℕ) → FirstIs (bytesOf "order") l → Does s l s (refusedText 11)
@@ -204,9 +214,11 @@ pub record InEither (s : State) : Type 0 where
   pub close-refused : (r : Refusal) → closeCall gateway (s .phase) .reply ≡ Refused r → Does s (line "close" []) s (refusedText (numberOf r))
   pub close-clears : s .phase .kind ≡ 1 → closeCall gateway (s .phase) .reply ≡ Accepted
       → Does s (line "close" []) (stateWith (closeCall gateway (s .phase) .phase) (s .table) []) (bytesOf "\tok")
-  -- `list` gives the count, then each label followed by its price, where the check passes the table, and else the check's refusal
-  pub list : checkCall gateway (s .table) ≡ Accepted → Does s (line "list" []) s (listText (entriesOf (s .table)))
-  pub list-refused : (r : Refusal) → checkCall gateway (s .table) ≡ Refused r → Does s (line "list" []) s (refusedText (numberOf r))
+  -- `list` gives the count, then each label followed by its price, where the check by the record's a and b passes the table, and else the check's refusal
+  pub list : checkCall gateway (s .phase .hash) (s .table) ≡ Accepted → Does s (line "list" []) s (listText (entriesOf (s .table)))
+  pub list-refused : (r : Refusal) → checkCall gateway (s .phase .hash) (s .table) ≡ Refused r → Does s (line "list" []) s (refusedText (numberOf r))
+  -- which are those of the last accepted opening: every line but an opening keeps them
+  pub keeps-hash : (l : List ℕ) → (FirstIs (bytesOf "open") l → ⊥) → answerOf s (readingOf l) .state .phase .hash ≡ s .phase .hash
   -- every line but `item` and `close` keeps the items
   pub keeps-items : (l : List ℕ) → (FirstIs (bytesOf "item") l → ⊥) → (FirstIs (bytesOf "close") l → ⊥) → answerOf s (readingOf l) .state .items ≡ s .items
 
@@ -218,8 +230,9 @@ pub record SheetPromise : Type 0 where
   pub before-turn : (t : List ℕ) (w : ℕ) → turnCall gateway (blank .phase) t w .reply ≡ turn.Refused Shut
   pub before-close : closeCall gateway (blank .phase) .reply ≡ Refused Shut
   pub before-cells : length (blank .table) ≡ 0
-  -- and there are no items
+  -- there are no items, and a is 1 and b is 0
   pub before-items : blank .items ≡ []
+  pub before-hash : blank .phase .hash ≡ hashOf 1 0
   -- in every state
   pub shut : (s : State) → s .phase .shut ≡ true → InShut s
   pub opened : (s : State) → s .phase .shut ≡ false → InOpen s
@@ -233,9 +246,16 @@ pub record SheetPromise : Type 0 where
   pub crew : (s : State) → Valid s → s .phase .shut ≡ false → (1 ≤ s .phase .crew) × (s .phase .crew ≤ 16)
   -- and at most 1,024 items, so that no opening answers 16
   pub few-items : (s : State) → Valid s → length (s .items) ≤ 1024
-  pub never-long : (s : State) → Valid s → (k m : ℕ) → openCall gateway k m (s .table) (s .items) .reply ≢ Refused LongList
+  pub never-long : (s : State) → Valid s → (k m a b : ℕ) → openingOf s k m a b .reply ≢ Refused LongList
   -- there a turn that answers a price tells the one at which the label looked up stands in the table, and where one answers no it stands at none
   pub told : (s : State) → Valid s → s .phase .shut ≡ false → (w : ℕ) (a : Answer) → turnCall gateway (s .phase) (s .table) w .reply ≡ turn.Answered a
       → Tells (s .phase) (s .table) w a
   -- and a run leaves all workers idle, with `-` exactly for those idle before, else their finish
   pub ran : (s : State) → Valid s → s .phase .shut ≡ false → Runs gateway (s .phase) (s .table) (dealing.run gateway (s .phase) (s .table))
+  -- lines lead to records that an opening and calls have made, with an odd a, so that no `list` answers 21; in a shut shift `turn` and `close` then answer 11
+  -- and change nothing, whatever shift was the last
+  pub by-calls-first : ByCalls (blank .phase)
+  pub by-calls : (s : State) → ByCalls (s .phase) → (l : List ℕ) → ByCalls (answerOf s (readingOf l) .state .phase)
+  pub never-even : (s : State) → ByCalls (s .phase) → checkCall gateway (s .phase .hash) (s .table) ≢ Refused Even
+  pub shut-turn : (s : State) → ByCalls (s .phase) → s .phase .shut ≡ true → (w : ℕ) → w ≤ greatest → Does s (line "turn" (w ∷ [])) s (refusedText 11)
+  pub shut-close : (s : State) → ByCalls (s .phase) → s .phase .shut ≡ true → Does s (line "close" []) s (refusedText 11)

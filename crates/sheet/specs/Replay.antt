@@ -4,6 +4,8 @@ use mathlib.Core.List.{List, [], _∷_, _++_}
 use Prim.Native.Nat.{ℕ, _+_}
 use lib.Dec.{ltb, eqb}
 use lib.ListN.{length, getD, replicate}
+use Rattle.homes.specs.Homes.{hashOf}
+use Rattle.homes.specs.declared.Hash.{Hash}
 use Rattle.orders.specs.Orders.{orderWith}
 use Rattle.orders.specs.declared.Order.{Order}
 use Rattle.state.specs.Model.{gateway}
@@ -39,7 +41,7 @@ pub record State : Type 0 where
   -- the list of orders that the `item` lines have formed
   pub items : List Order
 
--- before the first line: the phase counts as shut, the table has no cells, and there are no items
+-- before the first line: the phase counts as shut, with a of 1 and b of 0, the table has no cells, and there are no items
 abbrev pub blank : State
 blank = record { phase = refusedPhase gateway; table = []; items = [] }
 
@@ -74,6 +76,17 @@ cellsTask s n =
     (cond (ltb mostSheetCells n) (tells s (replied (Refused Size)))
     (tells (record { phase = s .phase; table = replicate n 0; items = s .items }) (replied Accepted)))
 
+-- the phase behind an opening: a refused one leaves the phase that was there, so that its a and b are those of the last accepted opening
+abbrev pub phaseAfter : Reply → (before opened : Phase) → Phase
+phaseAfter Accepted before opened = opened
+phaseAfter (Refused r) before opened = before
+
+-- an opening is lent the items whatever its kind
+abbrev pub openTask : State → (k m : ℕ) → Hash → Step
+openTask s k m ab =
+    let r = openCall gateway k m ab (s .table) (s .items) in
+    tells (record { phase = phaseAfter (r .reply) (s .phase) (r .phase); table = s .table; items = s .items }) (replied (r .reply))
+
 -- one item more, behind the others
 abbrev pub itemTask : State → (w v cents : ℕ) → Step
 itemTask s w v cents = tells (record { phase = s .phase; table = s .table; items = s .items ++ (orderWith v cents w ∷ []) }) (replied Accepted)
@@ -96,19 +109,19 @@ itemsAfter k (Refused r) os = os
 abbrev pub closeTask : State → Step
 closeTask s = let r = closeCall gateway (s .phase) in calls (s .table) (itemsAfter (s .phase .kind) (r .reply) (s .items)) r
 
--- listed into a list as long as the table
+-- listed into a list as long as the table, by the phase's a and b
 abbrev pub listTold : Counted → Told
 listTold (counted.Count c) = Listed c
 listTold (counted.Refused r) = replied (Refused r)
 
 abbrev pub listTask : State → Step
-listTask s = tells s (listTold (listCall gateway (s .table) (s .table)))
+listTask s = tells s (listTold (listCall gateway (s .phase .hash) (s .table) (s .table)))
 
--- what a command does with these numbers. An opening is lent the items whatever its kind; an order's first number is a place in an insert phase, else the
--- worker. A line of an unknown command is never carried out: its row says so
+-- what a command does with these numbers. An order's first number is a place in an insert phase, else the worker. A line of an unknown command is never
+-- carried out: its row says so
 abbrev pub commanded : State → Command → List ℕ → Step
 commanded s Command.Cells ns = cellsTask s (getD ns 0 0)
-commanded s Command.Open ns = calls (s .table) (s .items) (openCall gateway (getD ns 0 0) (getD ns 1 0) (s .table) (s .items))
+commanded s Command.Open ns = openTask s (getD ns 0 0) (getD ns 1 0) (hashOf (getD ns 2 0) (getD ns 3 0))
 commanded s Command.Item ns = itemTask s (getD ns 0 0) (getD ns 1 0) (getD ns 2 0)
 commanded s Command.Order ns = calls (s .table) (s .items) (orderCall gateway (s .phase) (s .items) (getD ns 0 0) (getD ns 0 0) (getD ns 1 0))
 commanded s Command.Turn ns = turnTask s (getD ns 0 0)

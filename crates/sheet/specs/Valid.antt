@@ -3,7 +3,10 @@ use mathlib.Core.Path.{_≡_}
 use mathlib.Core.Bool.{false}
 use Prim.Native.Nat.{_≤_}
 use lib.ListN.{length}
+use Rattle.homes.specs.Promise.{Odd}
 use Rattle.state.specs.Model.{gateway}
+use Rattle.state.specs.declared.Phase.{Phase}
+use Rattle.protocol.specs.Promise.{Made}
 use Rattle.lines.specs.declared.Command.{Command}
 use Rattle.fitting.specs.Fitting.{mostItems}
 use Rattle.fitting.specs.declared.Task.{Task}
@@ -17,6 +20,11 @@ pub record Valid (s : State) : Type 0 where
   pub few : length (s .table) ≤ mostSheetCells
   pub items : length (s .items) ≤ mostItems
   pub reached : s .phase .shut ≡ false → Reached gateway (s .items) (s .phase) (s .table)
+
+-- an opening and calls have made the phase, open or shut, and its a is odd
+pub record ByCalls (p : Phase) : Type 0 where
+  pub made : Made gateway p
+  pub odd : Odd (p .hash .a)
 
 -- what the line `run` must find: an open phase that calls have led to
 abbrev pub RunFinds : State → Task → Type 0

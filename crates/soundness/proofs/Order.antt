@@ -25,6 +25,12 @@ module _ (n : ℕ) (home : ℕ → ℕ) (t : List ℕ) (j : ℕ) where
   pub path-is : {key h path : ℕ} → key ≡ x → h ≡ home key → path ≡ dist n h j → path ≡ displacement n home t j
   path-is k h p = p ∙ ap (λ c. dist n c j) (h ∙ ap home k)
 
+  -- which is 0 where that is its home
+  pub no-path : {key h : ℕ} → j < n → key ≡ x → h ≡ home key → h ≡ j → 0 ≡ displacement n home t j
+  no-path jn k h e =
+      let at : home x ≡ j = sym (ap home k) ∙ sym h ∙ e in
+      sym (ap (λ c. dist n c j) at ∙ omega (arith, dist-fact n j j jn jn))
+
   pub empty-keeps : x ≡ 0 → false ≡ breaks n home t j
   empty-keeps e = rw (eq-eqb x 0 e)
 

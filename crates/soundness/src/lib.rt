@@ -1,13 +1,14 @@
 // Why a table is unsound, in time linear in its cells.
 // Each cell has a link: how many cells right before it are known to hold greater labels. A search back from a cell jumps over these.
+use homes::Hash;
 use prices::HIGHEST;
 use prices::PRICES;
 ghost use mathlib.Core.Path.{_≡_};
 ghost use mathlib.Core.Bool.{false};
-ghost use Prim.Native.Nat.{suc, _≤_, _<_};
+ghost use Prim.Native.Nat.{ℕ, suc, _≤_, _<_};
 ghost use lib.Dec.{eqb};
 ghost use lib.ListN.{length, getD};
-ghost use Rattle.layout.specs.Home.{modulo};
+ghost use Rattle.homes.specs.Homes.{spread};
 ghost use Rattle.ring.specs.Each.{all, some};
 ghost use Rattle.prices.specs.Contents.{label, cellOk};
 ghost use Rattle.prices.specs.Priced.{labels};
@@ -52,7 +53,8 @@ fn key_at(cells: &[u64], c: u32) -> u32
 
 // How many cells right before cell `j` are seen to hold greater labels: at least `path`, or all up to one that does not.
 fn greater_before(cells: &[u64], links: &[u16], j: u32, path: u32) -> u32
-    requires { ⌜ Linked (length (now cells)) (modulo (length (now cells))) (labels label (now cells)) j (now links) × (j < length (now cells)) × (path < length (now cells)) ⌝ }
+    requires { ⌜ ((home : ℕ → ℕ) × Linked (length (now cells)) home (labels label (now cells)) j (now links))
+        × (j < length (now cells)) × (path < length (now cells)) ⌝ }
     ensures { λ r. ⌜ Searched (length (now (cells .entry))) (labels label (now (cells .entry))) (now (links .entry)) j path r ⌝ }
 {
     let n = cells.len() as u32;
@@ -68,18 +70,24 @@ fn greater_before(cells: &[u64], links: &[u16], j: u32, path: u32) -> u32
     s
 }
 
-// Whether the label of cell `j` breaks the order. If not, the cell's link is set and the search can go on.
-fn breaks_order(cells: &[u64], links: &mut [u16], j: u32) -> bool
-    requires { ⌜ Linked (length (now cells)) (modulo (length (now cells))) (labels label (now cells)) j (now links) × (j < length (now cells)) ⌝ }
-    ensures { λ r. ⌜ (r ≡ breaks (length (now (cells .entry))) (modulo (length (now (cells .entry)))) (labels label (now (cells .entry))) j)
-        × (r ≡ false → Linked (length (now (cells .entry))) (modulo (length (now (cells .entry)))) (labels label (now (cells .entry))) (suc j) (now (links .exit))) ⌝ }
+// Whether the label of cell `j` breaks the order. If not, the cell's link is set and the search can go on. One at home has nothing to be searched.
+fn breaks_order(hash: Hash, cells: &[u64], links: &mut [u16], j: u32) -> bool
+    requires { ⌜ Linked (length (now cells)) (spread hash (length (now cells))) (labels label (now cells)) j (now links) × (j < length (now cells)) ⌝ }
+    ensures { λ r. ⌜ (r ≡ breaks (length (now (cells .entry))) (spread hash (length (now (cells .entry)))) (labels label (now (cells .entry))) j)
+        × (r ≡ false → Linked (length (now (cells .entry))) (spread hash (length (now (cells .entry))))
+        (labels label (now (cells .entry))) (suc j) (now (links .exit))) ⌝ }
 {
     let n = cells.len() as u32;
     let key = key_at(cells, j);
     if key == 0 {
         return false;
     }
-    let path = geometry::dist(n, geometry::home(n, key), j);
+    let home = homes::home(hash, n, key);
+    if home == j {
+        links[j as usize] = 0;
+        return false;
+    }
+    let path = geometry::dist(n, home, j);
     let s = greater_before(cells, &links[..], j, path);
     if s < path {
         return true;
@@ -89,15 +97,16 @@ fn breaks_order(cells: &[u64], links: &mut [u16], j: u32) -> bool
 }
 
 // Whether cell `j` is wrong by itself, or its label breaks the order.
-fn is_faulty(cells: &[u64], links: &mut [u16], j: u32) -> bool
-    requires { ⌜ Linked (length (now cells)) (modulo (length (now cells))) (labels label (now cells)) j (now links) × (j < length (now cells)) ⌝ }
-    ensures { λ r. ⌜ (r ≡ isFaulty (modulo (length (now (cells .entry)))) (now (cells .entry)) j)
-        × (r ≡ false → Linked (length (now (cells .entry))) (modulo (length (now (cells .entry)))) (labels label (now (cells .entry))) (suc j) (now (links .exit))) ⌝ }
+fn is_faulty(hash: Hash, cells: &[u64], links: &mut [u16], j: u32) -> bool
+    requires { ⌜ Linked (length (now cells)) (spread hash (length (now cells))) (labels label (now cells)) j (now links) × (j < length (now cells)) ⌝ }
+    ensures { λ r. ⌜ (r ≡ isFaulty (spread hash (length (now (cells .entry)))) (now (cells .entry)) j)
+        × (r ≡ false → Linked (length (now (cells .entry))) (spread hash (length (now (cells .entry))))
+        (labels label (now (cells .entry))) (suc j) (now (links .exit))) ⌝ }
 {
     if !cell_ok(cells[j as usize]) {
         return true;
     }
-    breaks_order(cells, links, j)
+    breaks_order(hash, cells, links, j)
 }
 
 // Comes past empty cells from cell `j` on, two at a time, to one that is not, to the last cell or to the length. Most cells of a sparse table are passed here.
@@ -120,10 +129,11 @@ fn past_empties(cells: &[u64], j: u32) -> u32
 }
 
 // The lowest-numbered such cell, or the length if there is none: then the links of all cells are set.
-fn search(cells: &[u64], links: &mut [u16]) -> u32
-    requires { ⌜ Linked (length (now cells)) (modulo (length (now cells))) (labels label (now cells)) 0 (now links) ⌝ }
-    ensures { λ r. ⌜ (r ≡ firstFaulty (modulo (length (now (cells .entry)))) (now (cells .entry)))
-        × (r ≡ length (now (cells .entry)) → Linked (length (now (cells .entry))) (modulo (length (now (cells .entry)))) (labels label (now (cells .entry))) r (now (links .exit))) ⌝ }
+fn search(hash: Hash, cells: &[u64], links: &mut [u16]) -> u32
+    requires { ⌜ Linked (length (now cells)) (spread hash (length (now cells))) (labels label (now cells)) 0 (now links) ⌝ }
+    ensures { λ r. ⌜ (r ≡ firstFaulty (spread hash (length (now (cells .entry)))) (now (cells .entry)))
+        × (r ≡ length (now (cells .entry)) → Linked (length (now (cells .entry))) (spread hash (length (now (cells .entry))))
+        (labels label (now (cells .entry))) r (now (links .exit))) ⌝ }
 {
     let n = cells.len() as u32;
     let mut j: u32 = 0;
@@ -131,7 +141,7 @@ fn search(cells: &[u64], links: &mut [u16]) -> u32
         if cells[j as usize] == 0 {
             j = past_empties(cells, j + 1);
         } else {
-            if is_faulty(cells, links, j) {
+            if is_faulty(hash, cells, links, j) {
                 return j;
             }
             j += 1;
@@ -141,30 +151,30 @@ fn search(cells: &[u64], links: &mut [u16]) -> u32
 }
 
 // The same, with room for the links. Less is cleared for smaller tables.
-fn first_faulty(cells: &[u64]) -> u32
+fn first_faulty(hash: Hash, cells: &[u64]) -> u32
     requires { ⌜ length (now cells) ≤ 8192 ⌝ }
-    ensures { λ r. ⌜ r ≡ firstFaulty (modulo (length (now (cells .entry)))) (now (cells .entry)) ⌝ }
+    ensures { λ r. ⌜ r ≡ firstFaulty (spread hash (length (now (cells .entry)))) (now (cells .entry)) ⌝ }
 {
     if cells.len() <= 64 {
         let mut few = [0u16; 64];
-        return search(cells, &mut few);
+        return search(hash, cells, &mut few);
     }
     if cells.len() <= 1024 {
         let mut more = [0u16; 1024];
-        return search(cells, &mut more);
+        return search(hash, cells, &mut more);
     }
     let mut links = [0u16; 8192];
-    search(cells, &mut links)
+    search(hash, cells, &mut links)
 }
 
 // What the label of cell `j` meets first: the first content from its home on that is not greater, in cell `j` at the latest.
-fn first_met(cells: &[u64], j: u32) -> u64
+fn first_met(hash: Hash, cells: &[u64], j: u32) -> u64
     requires { ⌜ (length (now cells) ≤ 8192) × (j < length (now cells)) ⌝ }
-    ensures { λ r. ⌜ r ≡ firstMet (modulo (length (now (cells .entry)))) (now (cells .entry)) j ⌝ }
+    ensures { λ r. ⌜ r ≡ firstMet (spread hash (length (now (cells .entry)))) (now (cells .entry)) j ⌝ }
 {
     let n = cells.len() as u32;
     let key = key_at(cells, j);
-    let mut c = geometry::home(n, key);
+    let mut c = homes::home(hash, n, key);
     while key < key_at(cells, c) {
         c = geometry::next(n, c);
     }
@@ -197,22 +207,23 @@ fn all_ok(cells: &[u64]) -> bool
     true
 }
 
-// Why a table is unsound, if it is. The search ends at a faulty cell: all cells are then tested by themselves before its label is asked.
-pub fn flaw_of(cells: &[u64]) -> Flaw
+// Why a table is unsound by its hash function, if it is. The search ends at a faulty cell: all cells are then tested by themselves before its label
+// is asked.
+pub fn flaw_of(hash: Hash, cells: &[u64]) -> Flaw
     requires { ⌜ length (now cells) ≤ 8192 ⌝ }
-    ensures { λ r. ⌜ r ≡ flawOf (modulo (length (now (cells .entry)))) (now (cells .entry)) ⌝ }
+    ensures { λ r. ⌜ r ≡ flawOf (spread hash (length (now (cells .entry)))) (now (cells .entry)) ⌝ }
 {
     if !some_empty(cells) {
         return Flaw::Cells;
     }
-    let j = first_faulty(cells);
+    let j = first_faulty(hash, cells);
     if j == cells.len() as u32 {
         return Flaw::None;
     }
     if !all_ok(cells) {
         return Flaw::Cells;
     }
-    if first_met(cells, j) == 0 {
+    if first_met(hash, cells, j) == 0 {
         return Flaw::Gap;
     }
     Flaw::Disorder

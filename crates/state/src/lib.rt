@@ -3,6 +3,8 @@ use activities::Activity;
 use activities::Worker;
 use crowding::lines_crowded;
 use distinct::crowded;
+use homes::Hash;
+use homes::is_even;
 use lent::lines_fault;
 use orders::Order;
 use parallel::fault_of;
@@ -12,19 +14,18 @@ use soundness::flaw_of;
 ghost use Prim.Native.Nat.{_≤_};
 ghost use mathlib.Core.Bool.{false, cond};
 ghost use mathlib.Core.Path.{_≡_};
-ghost use mathlib.Core.List.{_++_};
 ghost use lib.Dec.{ltb, eqb};
 ghost use lib.ListN.{length};
 ghost use Rattle.orders.specs.Orders.{ordersOf};
 ghost use Rattle.activities.specs.Kinds.{kindOk};
 ghost use Rattle.state.specs.Model.{gateway, sizeOk, crewOk};
-ghost use Rattle.state.specs.Open.{fresh, refusedPhase, sizeBars, soundBars, opened, openCall};
+ghost use Rattle.state.specs.Open.{fresh, refusedPhase, soundBars, tableBars, opened, openCall};
 ghost use Rattle.state.specs.Refusals.{numberOf, firstOf};
 ghost use Rattle.state.specs.Stages.{readsList, earlyBars, lateBars};
 
 // Why a call is refused: the words of document 01's table, in its order, then the numbers of document 02.
 // `Unsound` is a table without an empty cell or with a cell that is wrong by itself, `Gap` and `Disorder` one whose labels break the way rule.
-// `BadRecord` is a record of a till list that breaks the grammar or has not two fields, `BadField` one with a field that is no number.
+// `BadRecord` is a record of a till list that breaks the grammar or has not two fields, `BadField` one with a field that is no number. `Even` is an even a.
 pub enum Refusal {
     Size,
     Crew,
@@ -46,6 +47,7 @@ pub enum Refusal {
     Disorder,
     BadRecord,
     BadField,
+    Even,
 }
 
 impl Refusal {
@@ -74,6 +76,7 @@ impl Refusal {
             Refusal::Disorder => 18,
             Refusal::BadRecord => 19,
             Refusal::BadField => 20,
+            Refusal::Even => 21,
         }
     }
 }
@@ -90,12 +93,13 @@ pub enum Counted {
     Refused(Refusal),
 }
 
-// The state of a phase.
+// The state of a phase. Its hash function, by which the homes of keys are computed, is that of the opening.
 pub struct Phase {
     pub kind: u32,
     pub length: u32,
     pub crew: u32,
     pub shut: bool,
+    pub hash: Hash,
     pub workers: [Worker; Phase::ROOM],
 }
 
@@ -150,8 +154,8 @@ impl Phase {
     }
 
     // A phase with all workers idle.
-    fn fresh(kind: u32, length: u32, crew: u32, shut: bool) -> Phase
-        ensures { λ r. ⌜ r ≡ fresh gateway kind length crew shut ⌝ }
+    fn fresh(kind: u32, length: u32, crew: u32, shut: bool, hash: Hash) -> Phase
+        ensures { λ r. ⌜ r ≡ fresh gateway kind length crew shut hash ⌝ }
     {
         let workers = [Worker {
             activity: Activity::Idle,
@@ -161,6 +165,7 @@ impl Phase {
             length,
             crew,
             shut,
+            hash,
             workers,
         }
     }
@@ -169,7 +174,7 @@ impl Phase {
         ensures { λ r. ⌜ r ≡ record { phase = refusedPhase gateway; reply = Reply.Refused why } ⌝ }
     {
         Replied {
-            phase: Self::fresh(3, 2, 1, true),
+            phase: Self::fresh(3, 2, 1, true, Hash { a: 1, b: 0 }),
             reply: Reply::Refused(why),
         }
     }
@@ -186,11 +191,11 @@ impl Phase {
     }
 
     // Whether the table is sound or, if it is not, why.
-    fn soundness(cells: &[u64]) -> Reply
+    fn soundness(hash: Hash, cells: &[u64]) -> Reply
         requires { ⌜ length (now cells) ≤ 8192 ⌝ }
-        ensures { λ r. ⌜ r ≡ firstOf (soundBars gateway (now (cells .entry))) ⌝ }
+        ensures { λ r. ⌜ r ≡ firstOf (soundBars gateway hash (now (cells .entry))) ⌝ }
     {
-        let found = flaw_of(cells);
+        let found = flaw_of(hash, cells);
         match found {
             Flaw::None => Reply::Accepted,
             Flaw::Cells => Reply::Refused(Refusal::Unsound),
@@ -199,19 +204,22 @@ impl Phase {
         }
     }
 
-    // Whether a table may have its length, and is sound or, if it is not, why.
-    pub fn check(cells: &[u64]) -> Reply
-        ensures { λ r. ⌜ r ≡ firstOf (sizeBars gateway (now (cells .entry)) ++ soundBars gateway (now (cells .entry))) ⌝ }
+    // Whether a table may have its length and its hash function, and is sound or, if it is not, why.
+    pub fn check(hash: Hash, cells: &[u64]) -> Reply
+        ensures { λ r. ⌜ r ≡ firstOf (tableBars gateway hash (now (cells .entry))) ⌝ }
     {
         if !Self::size_ok(cells.len()) {
             return Reply::Refused(Refusal::Size);
         }
-        Self::soundness(cells)
+        if is_even(hash) {
+            return Reply::Refused(Refusal::Even);
+        }
+        Self::soundness(hash, cells)
     }
 
     // Whether the opening goes on to the list: of an insert phase, that nothing is refused before.
-    fn reads_list(kind: u64, crew: u64, cells: &[u64], lines: usize) -> bool
-        ensures { λ r. ⌜ r ≡ readsList gateway kind crew (now (cells .entry)) lines ⌝ }
+    fn reads_list(kind: u64, crew: u64, hash: Hash, cells: &[u64], lines: usize) -> bool
+        ensures { λ r. ⌜ r ≡ readsList gateway kind crew hash (now (cells .entry)) lines ⌝ }
     {
         if kind != 1 {
             return false;
@@ -222,10 +230,13 @@ impl Phase {
         if !Self::crew_ok(crew as usize) {
             return false;
         }
+        if is_even(hash) {
+            return false;
+        }
         if Self::MOST_LINES < lines {
             return false;
         }
-        let sound = Self::soundness(cells);
+        let sound = Self::soundness(hash, cells);
         match sound {
             Reply::Accepted => true,
             Reply::Refused(_) => false,
@@ -233,8 +244,8 @@ impl Phase {
     }
 
     // The opening where it does not go on to the list.
-    fn opened_early(kind: u64, crew: u64, cells: &[u64], lines: usize) -> Replied
-        ensures { λ r. ⌜ r ≡ opened gateway kind crew (now (cells .entry)) (firstOf (earlyBars gateway kind crew (now (cells .entry)) lines)) ⌝ }
+    fn opened_early(kind: u64, crew: u64, hash: Hash, cells: &[u64], lines: usize) -> Replied
+        ensures { λ r. ⌜ r ≡ opened gateway kind crew hash (now (cells .entry)) (firstOf (earlyBars gateway kind crew hash (now (cells .entry)) lines)) ⌝ }
     {
         if !Self::size_ok(cells.len()) {
             return Self::refused(Refusal::Size);
@@ -245,23 +256,26 @@ impl Phase {
         if !Self::kind_ok(kind) {
             return Self::refused(Refusal::Kind);
         }
+        if is_even(hash) {
+            return Self::refused(Refusal::Even);
+        }
         if Self::is_too_long(kind, lines) {
             return Self::refused(Refusal::LongList);
         }
-        let sound = Self::soundness(cells);
+        let sound = Self::soundness(hash, cells);
         match sound {
             Reply::Refused(why) => Self::refused(why),
             Reply::Accepted => Replied {
-                phase: Self::fresh(kind as u32, cells.len() as u32, crew as u32, false),
+                phase: Self::fresh(kind as u32, cells.len() as u32, crew as u32, false, hash),
                 reply: Reply::Accepted,
             },
         }
     }
 
     // The opening of an insert phase behind the check of the lines: the number of what is wrong with them, and whether table and list together are too many.
-    fn opened_late(crew: u64, cells: &[u64], fault: u32, full: bool) -> Replied
+    fn opened_late(crew: u64, hash: Hash, cells: &[u64], fault: u32, full: bool) -> Replied
         requires { ⌜ (length (now cells) ≤ 8192) × (crew ≤ 16) ⌝ }
-        ensures { λ r. ⌜ r ≡ opened gateway 1 crew (now (cells .entry)) (firstOf (lateBars fault full)) ⌝ }
+        ensures { λ r. ⌜ r ≡ opened gateway 1 crew hash (now (cells .entry)) (firstOf (lateBars fault full)) ⌝ }
     {
         if fault == 7 {
             return Self::refused(Refusal::Blank);
@@ -276,41 +290,43 @@ impl Phase {
             return Self::refused(Refusal::Full);
         }
         Replied {
-            phase: Self::fresh(1, cells.len() as u32, crew as u32, false),
+            phase: Self::fresh(1, cells.len() as u32, crew as u32, false, hash),
             reply: Reply::Accepted,
         }
     }
 
-    // Opens a phase of a kind, with a crew of so many workers, on a table; an insert phase with a list of orders, which the other kinds do not read.
-    pub fn open(kind: u64, crew: u64, cells: &[u64], orders: &[Order]) -> Replied
-        ensures { λ r. ⌜ r ≡ openCall gateway kind crew (now (cells .entry)) (now (orders .entry)) ⌝ }
+    // Opens a phase of a kind, with a crew of so many workers and a hash function, on a table; an insert phase with a list of orders, which the other
+    // kinds do not read.
+    pub fn open(kind: u64, crew: u64, hash: Hash, cells: &[u64], orders: &[Order]) -> Replied
+        ensures { λ r. ⌜ r ≡ openCall gateway kind crew hash (now (cells .entry)) (now (orders .entry)) ⌝ }
     {
         let lines = orders.len();
-        if Self::reads_list(kind, crew, cells, lines) {
+        if Self::reads_list(kind, crew, hash, cells, lines) {
             let fault = lines_fault(orders, crew as u32);
             let full = lines_crowded(cells, orders);
-            return Self::opened_late(crew, cells, fault, full);
+            return Self::opened_late(crew, hash, cells, fault, full);
         }
-        Self::opened_early(kind, crew, cells, lines)
+        Self::opened_early(kind, crew, hash, cells, lines)
     }
 
     // The same with the list in three parallel slices: as many lines as the shortest has.
     pub fn open_parallel(
         kind: u64,
         crew: u64,
+        hash: Hash,
         cells: &[u64],
         keys: &[u32],
         prices: &[u32],
         workers: &[u32],
     ) -> Replied
-        ensures { λ r. ⌜ r ≡ openCall gateway kind crew (now (cells .entry)) (ordersOf (now (keys .entry)) (now (prices .entry)) (now (workers .entry))) ⌝ }
+        ensures { λ r. ⌜ r ≡ openCall gateway kind crew hash (now (cells .entry)) (ordersOf (now (keys .entry)) (now (prices .entry)) (now (workers .entry))) ⌝ }
     {
         let lines = lines_of(keys, prices, workers);
-        if Self::reads_list(kind, crew, cells, lines) {
+        if Self::reads_list(kind, crew, hash, cells, lines) {
             let fault = fault_of(keys, prices, workers, crew as u32);
             let full = crowded(cells, &keys[..lines]);
-            return Self::opened_late(crew, cells, fault, full);
+            return Self::opened_late(crew, hash, cells, fault, full);
         }
-        Self::opened_early(kind, crew, cells, lines)
+        Self::opened_early(kind, crew, hash, cells, lines)
     }
 }

@@ -9,6 +9,8 @@ use lib.ListN.{length, getD}
 use borrow.Author.Tests.{ltb-true, ltb-false, le-ltb}
 use Rattle.ring.proofs.Split.{by-eq}
 use Rattle.layout.specs.Layout.{size}
+use Rattle.homes.specs.Promise.{Odd}
+use Rattle.homes.specs.declared.Hash.{Hash}
 use Rattle.prices.specs.Contents.{label}
 use Rattle.prices.specs.Priced.{labels}
 use Rattle.flaws.specs.Promise.{Intact}
@@ -28,44 +30,45 @@ use Rattle.state.proofs.Counts.{count-number, kept}
 use Rattle.protocol.specs.Cases.{Decides}
 use Rattle.protocol.specs.Promise.{GappedIn, DisorderedIn}
 use Rattle.protocol.specs.WellFormed.{Size}
-use Rattle.protocol.proofs.Calls.{sizeSteps, soundSteps}
+use Rattle.protocol.proofs.Calls.{sizeSteps, evenSteps, soundSteps}
 use Rattle.protocol.proofs.Chain.{Step, casesOf, decides, none-accepted}
 use Rattle.protocol.proofs.Soundness.{sounds}
 use Rattle.tables.specs.Calls.{checkCall, countCall, listBars, listCall, listAfter, listFront}
 use Rattle.tables.specs.Promise.{Usable, checkCases, listCases, AtRest, AtRestPromise}
 use Rattle.tables.proofs.Answers.{list-by, refused-alike, short, full as full-list}
 
-module _ (M : Model) (proper : Proper M) (t : List ℕ) where
+module _ (M : Model) (proper : Proper M) (ab : Hash) (t : List ℕ) where
   -- a table that the check accepts has as many ones as keys
-  counts : Usable M t → countOf t ≡ size (labels label t)
-  counts (sized, sound) =
-      listing t .number (length t) (M .home (length t)) (λ x. proper .homes (length t) x (omega (arith, proper .some))) (sounds .words M t .1 sound .paths)
+  counts : Usable M ab t → countOf t ≡ size (labels label t)
+  counts (sized, _, sound) =
+      listing t .number (length t) (M .home ab (length t)) (λ x. proper .homes ab (length t) x (omega (arith, proper .some))) (sounds .words M ab t .1 sound .paths)
 
-  check-decides : Decides (replyNumber (checkCall M t)) (checkCases M t)
-  check-decides = decides (sizeSteps M t ++ soundSteps M t) refl (replyNumber (checkCall M t)) refl
+  check-decides : Decides (replyNumber (checkCall M ab t)) (checkCases M ab t)
+  check-decides = decides (sizeSteps M t ++ evenSteps ab ++ soundSteps M ab t) refl (replyNumber (checkCall M ab t)) refl
 
-  -- behind its size, a table of none of the kinds of unsound is one that it accepts
-  usable : Size M (length t) → Intact t → (GappedIn M t → ⊥) → (DisorderedIn M t → ⊥) → Usable M t
-  usable sized w g d = (sized, sounds .kinds M proper t .1 (w, g, d))
+  -- behind its size and an odd a, a table of none of the kinds of unsound is one that it accepts
+  usable : Size M (length t) → Odd (ab .a) → Intact t → (GappedIn M ab t → ⊥) → (DisorderedIn M ab t → ⊥) → Usable M ab t
+  usable sized odd w g d = (sized, odd, sounds .kinds M proper ab t .1 (w, g, d))
 
-  passes : replyNumber (checkCall M t) ≡ 0 ↔ Usable M t
+  passes : replyNumber (checkCall M ab t) ≡ 0 ↔ Usable M ab t
   passes =
-      let (_, (_, (_, (_, (to, from))))) = check-decides in (
-        λ z. let ((((_, sized), w), g), d) = to z in usable sized w g d,
-        λ (sized, sound). let (w, g, d) = sounds .kinds M proper t .0 sound in from ((((tt, sized), w), g), d),
+      let (_, (_, (_, (_, (_, (to, from)))))) = check-decides in (
+        λ z. let (((((_, sized), odd), w), g), d) = to z in usable sized odd w g d,
+        λ (sized, odd, sound). let (w, g, d) = sounds .kinds M proper ab t .0 sound in from (((((tt, sized), odd), w), g), d),
       )
 
-  accepted : Usable M t → checkCall M t ≡ Accepted
-  accepted u = none-accepted (checkCall M t) (passes .1 u)
+  accepted : Usable M ab t → checkCall M ab t ≡ Accepted
+  accepted u = none-accepted (checkCall M ab t) (passes .1 u)
 
-  count-true : Usable M t → countValue (countCall M t) ≡ size (labels label t)
+  count-true : Usable M ab t → countValue (countCall M ab t) ≡ size (labels label t)
   count-true u = ap (λ (r : Reply). countValue (countedBy (countOf t) r)) (accepted u) ∙ counts u
 
   module _ (out : List ℕ) where
     abbrev listSteps : List Step
     listSteps =
         sizeSteps M t
-        ++ soundSteps M t
+        ++ evenSteps ab
+        ++ soundSteps M ab t
         ++ record {
           when = ltb (length out) (countOf t);
           why = ShortList;
@@ -78,29 +81,32 @@ module _ (M : Model) (proper : Proper M) (t : List ℕ) where
         ∷ []
 
     abbrev number : ℕ
-    number = countNumber (listCall M t out)
+    number = countNumber (listCall M ab t out)
 
     by-tests : Decides number (casesOf listSteps)
-    by-tests = decides listSteps refl number (count-number (countOf t) (firstOf (listBars M t out)))
+    by-tests = decides listSteps refl number (count-number (countOf t) (firstOf (listBars M ab t out)))
 
-    list : Decides number (listCases M t out)
+    list : Decides number (listCases M ab t out)
     list =
-        let (one, (four, (seventeen, (eighteen, (twelve, none))))) = by-tests in (
+        let (one, (odd, (four, (seventeen, (eighteen, (twelve, none)))))) = by-tests in (
           one,
           (
-            four,
+            odd,
             (
-              seventeen,
+              four,
               (
-                eighteen,
+                seventeen,
                 (
+                  eighteen,
                   (
-                    λ e. let (b, l) = twelve .0 e in (b, omega (arith, counts (behind-check b))),
-                    λ (b, l). twelve .1 (b, omega (arith, counts (behind-check b))),
-                  ),
-                  (
-                    λ e. let (b, l) = none .0 e in (b, omega (arith, counts (behind-check b))),
-                    λ (b, l). none .1 (b, omega (arith, counts (behind-check b))),
+                    (
+                      λ e. let (b, l) = twelve .0 e in (b, omega (arith, counts (behind-check b))),
+                      λ (b, l). twelve .1 (b, omega (arith, counts (behind-check b))),
+                    ),
+                    (
+                      λ e. let (b, l) = none .0 e in (b, omega (arith, counts (behind-check b))),
+                      λ (b, l). none .1 (b, omega (arith, counts (behind-check b))),
+                    ),
                   ),
                 ),
               ),
@@ -108,34 +114,34 @@ module _ (M : Model) (proper : Proper M) (t : List ℕ) where
           ),
         )
       where
-        behind-check : ((((Unit {0} × Size M (length t)) × Intact t) × (GappedIn M t → ⊥)) × (DisorderedIn M t → ⊥)) → Usable M t
-        behind-check ((((_, sized), w), g), d) = usable sized w g d
+        behind-check : (((((Unit {0} × Size M (length t)) × Odd (ab .a)) × Intact t) × (GappedIn M ab t → ⊥)) × (DisorderedIn M ab t → ⊥)) → Usable M ab t
+        behind-check (((((_, sized), odd), w), g), d) = usable sized odd w g d
 
     -- ---- by what count answers
-    list-counts : countValue (countCall M t) ≤ length out → listCall M t out ≡ countCall M t
-    list-counts = go (countCall M t) refl
+    list-counts : countValue (countCall M ab t) ≤ length out → listCall M ab t out ≡ countCall M ab t
+    list-counts = go (countCall M ab t) refl
       where
-        go : (a : Counted) → countCall M t ≡ a → countValue a ≤ length out → listCall M t out ≡ a
-        go (counted.Count c) e h = full-list M t out c e h
-        go (counted.Refused why) e h = refused-alike M t out why e
+        go : (a : Counted) → countCall M ab t ≡ a → countValue a ≤ length out → listCall M ab t out ≡ a
+        go (counted.Count c) e h = full-list M ab t out c e h
+        go (counted.Refused why) e h = refused-alike M ab t out why e
 
-    list-short : length out < countValue (countCall M t) → number ≡ 12
-    list-short = go (countCall M t) refl
+    list-short : length out < countValue (countCall M ab t) → number ≡ 12
+    list-short = go (countCall M ab t) refl
       where
-        go : (a : Counted) → countCall M t ≡ a → length out < countValue a → number ≡ 12
-        go (counted.Count c) e h = ap countNumber (short M t out c e h)
+        go : (a : Counted) → countCall M ab t ≡ a → length out < countValue a → number ≡ 12
+        go (counted.Count c) e h = ap countNumber (short M ab t out c e h)
         go (counted.Refused why) e h = absurd (omega arith)
 
     -- a list call that is not refused
     module _ (z : number ≡ 0) where
-      passed : Usable M t × (countOf t ≤ length out)
+      passed : Usable M ab t × (countOf t ≤ length out)
       passed =
-          let (_, (_, (_, (_, (_, none))))) = by-tests in
-          let (((((_, sized), w), g), d), l) = none .0 z in
-          (usable sized w g d, l)
+          let (_, (_, (_, (_, (_, (_, none)))))) = by-tests in
+          let ((((((_, sized), odd), w), g), d), l) = none .0 z in
+          (usable sized odd w g d, l)
 
-      full : listCall M t out ≡ counted.Count (countOf t)
-      full = list-by M t out Accepted (accepted (passed .0)) ∙ rw (le-ltb (length out) (countOf t) (passed .1))
+      full : listCall M ab t out ≡ counted.Count (countOf t)
+      full = list-by M ab t out Accepted (accepted (passed .0)) ∙ rw (le-ltb (length out) (countOf t) (passed .1))
 
       is-size : countOf t ≡ size (labels label t)
       is-size = counts (passed .0)
@@ -143,36 +149,36 @@ module _ (M : Model) (proper : Proper M) (t : List ℕ) where
       room : countOf t ≤ length out
       room = passed .1
 
-      after-filled : listAfter M t out ≡ filled t out
+      after-filled : listAfter M ab t out ≡ filled t out
       after-filled = ap (λ (a : Counted). ifCounted a (filled t out) out) full
 
-      listed : InCellOrder t (listAfter M t out)
+      listed : InCellOrder t (listAfter M ab t out)
       listed i key = ap (λ (l : List ℕ). getD l (keysBefore t i) 0) after-filled ∙ filled-in-order t out i key
 
-      behind : (j : ℕ) → size (labels label t) ≤ j → getD (listAfter M t out) j 0 ≡ getD out j 0
+      behind : (j : ℕ) → size (labels label t) ≤ j → getD (listAfter M ab t out) j 0 ≡ getD out j 0
       behind j h = ap (λ (l : List ℕ). getD l j 0) after-filled ∙ filled-behind t out j (omega (arith, is-size, listing t .count))
 
-      front-entries : listFront M t out ≡ entriesOf t
+      front-entries : listFront M ab t out ≡ entriesOf t
       front-entries = ap (λ (a : Counted). ifCounted a (entriesOf t) []) full
 
-      front : InCellOrder t (listFront M t out)
+      front : InCellOrder t (listFront M ab t out)
       front i key = ap (λ (l : List ℕ). getD l (keysBefore t i) 0) front-entries ∙ listing t .listed i key
 
-      front-long : length (listFront M t out) ≡ size (labels label t)
+      front-long : length (listFront M ab t out) ≡ size (labels label t)
       front-long = ap length front-entries ∙ listing t .long ∙ sym (listing t .count) ∙ is-size
 
-    unlisted : number ≢ 0 → listAfter M t out ≡ out
-    unlisted = kept (listCall M t out) (filled t out) out
+    unlisted : number ≢ 0 → listAfter M ab t out ≡ out
+    unlisted = kept (listCall M ab t out) (filled t out) out
 
-    long : length (listAfter M t out) ≡ length out
+    long : length (listAfter M ab t out) ≡ length out
     long = by-eq number 0 (λ z. ap length (after-filled z) ∙ length-filled t out (omega (arith, room z, listing t .count))) (λ r. ap length (unlisted r))
 
-    at-rest : AtRest M t out
+    at-rest : AtRest M ab t out
     at-rest =
         record {
           check = check-decides;
           passes = passes;
-          count-refused = count-number (countOf t) (checkCall M t);
+          count-refused = count-number (countOf t) (checkCall M ab t);
           count-true = count-true;
           list = list;
           list-counts = list-counts;
@@ -184,7 +190,7 @@ module _ (M : Model) (proper : Proper M) (t : List ℕ) where
           unlisted = unlisted;
           front = front;
           front-long = front-long;
-          no-front = kept (listCall M t out) (entriesOf t) [];
+          no-front = kept (listCall M ab t out) (entriesOf t) [];
         }
 
 pub theorem : AtRestPromise

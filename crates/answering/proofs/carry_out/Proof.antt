@@ -25,6 +25,12 @@ array-read-open-phase c = search needs
 array-read-open-phase-2 : tie.Need-array-read-open-phase-2
 array-read-open-phase-2 c = search needs
 
+array-read-open-phase-3 : tie.Need-array-read-open-phase-3
+array-read-open-phase-3 c = search needs
+
+array-read-open-phase-4 : tie.Need-array-read-open-phase-4
+array-read-open-phase-4 c = search needs
+
 open-phase-requires : tie.Need-open-phase-requires
 open-phase-requires c κs = let h = c .before .before .before .before .before .before .pre in (h .roomy, h .kept)
 
@@ -172,6 +178,8 @@ carry-out-spec =
     enum-told-2
     array-read-open-phase
     array-read-open-phase-2
+    array-read-open-phase-3
+    array-read-open-phase-4
     open-phase-requires
     enum-told-3
     array-read-add-item

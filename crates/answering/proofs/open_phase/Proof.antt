@@ -1,4 +1,4 @@
-use mathlib.Core.Path.{sym, ap, ap₂, _∙_}
+use mathlib.Core.Path.{sym, ap₂, _∙_}
 use mathlib.Core.List.{List}
 use Prim.Native.Nat.{ℕ, _+_}
 use native.Mathlib.Omega.{arith}
@@ -8,8 +8,7 @@ use Rattle.orders.specs.Orders.{ordersOf}
 use Rattle.state.specs.Model.{gateway}
 use Rattle.state.specs.Open.{openCall}
 use Rattle.fitting.specs.Fitting.{mostItems}
-use Rattle.answering.specs.Store.{repliedOf}
-use Rattle.answering.proofs.Store.{table-length, cut}
+use Rattle.answering.proofs.Store.{table-length, cut, opened-on, opened-off}
 use borrow.Author.Needs.{needs}
 use Rattle.answering.proofs.open_phase.Statement.{statement}
 use Rattle.answering.proofs.open_phase.Tie as tie
@@ -56,19 +55,43 @@ part-open-parallel-end-2 c = search needs
 open-parallel-requires : tie.Need-open-parallel-requires
 open-parallel-requires c κs = search needs
 
+enum-told : tie.Need-enum-told
+enum-told c = search needs
+
 tell-requires : tie.Need-tell-requires
 tell-requires c κs = search needs
 
+enum-known-reply : tie.Need-enum-known-reply
+enum-known-reply c = search needs
+
+tell-requires-2 : tie.Need-tell-requires-2
+tell-requires-2 c κs = search needs
+
 returns : tie.Need-returns
 returns c =
-    let a = c .before .before .before .before .before .before .before .before .before .args in
+    let called = c .before .before .before .before in
+    let a = called .before .before .before .before .before .before .before .args in
     let r = a .replay in
-    let t = take (r .length) (a .cells .now) in
     let xs = a .items .now in
-    let opened = c .before .before .open-parallel .ensures
-    ∙ ap₂ (λ (ps : List ℕ) (ws : List ℕ). openCall gateway (a .kind) (a .crew) t (ordersOf (take (r .items) xs) ps ws)) (cut mostItems (r .items) xs)
-    (cut (mostItems + mostItems) (r .items) xs) in
-    c .tell .ensures ∙ ap (repliedOf (r .length) (r .items)) opened
+    let t = take (r .length) (a .cells .now) in
+    opened-on (r .phase) (r .length) (r .items) _ _ _
+    (called .open-parallel .ensures
+    ∙ ap₂ (λ (ps : List ℕ) (ws : List ℕ). openCall gateway (a .kind) (a .crew) (a .hash) t (ordersOf (take (r .items) xs) ps ws)) (cut mostItems (r .items) xs)
+    (cut (mostItems + mostItems) (r .items) xs))
+    (c .before .enum-told .given .1) (c .tell .ensures)
+
+returns-2 : tie.Need-returns-2
+returns-2 c =
+    let called = c .before .before .before .before .before in
+    let a = called .before .before .before .before .before .before .before .args in
+    let r = a .replay in
+    let xs = a .items .now in
+    let t = take (r .length) (a .cells .now) in
+    opened-off (r .phase) (r .length) (r .items) _ _ _
+    (called .open-parallel .ensures
+    ∙ ap₂ (λ (ps : List ℕ) (ws : List ℕ). openCall gateway (a .kind) (a .crew) (a .hash) t (ordersOf (take (r .items) xs) ps ws)) (cut mostItems (r .items) xs)
+    (cut (mostItems + mostItems) (r .items) xs))
+    _ (c .before .before .reply .given .1) (c .tell2 .ensures)
 
 pub open-phase-spec : {M : Type 1} → statement M
 open-phase-spec =
@@ -88,5 +111,9 @@ open-phase-spec =
     part-open-parallel-start-2
     part-open-parallel-end-2
     open-parallel-requires
+    enum-told
     tell-requires
-    returns)
+    enum-known-reply
+    tell-requires-2
+    returns
+    returns-2)

@@ -177,14 +177,14 @@ mul-answer-order c = search needs
 
 element-copy-out-answer-order : tie.Need-element-copy-out-answer-order Inv-loop μ-loop
 element-copy-out-answer-order c =
-    let v = head (c .before .before .before) .loop .inv .0 .behind in
-    let to = whose (c .before .before .before) (c .before .aim .given .1) in
+    let v = head (c .before .before .before .before) .loop .inv .0 .behind in
+    let to = whose (c .before .before .before .before) (c .before .before .aim .given .1) in
     omega (arith, few-crew _ _ _ (v .held .ready) (to .0 .up), to .0 .below)
 
 answer-order-requires : tie.Need-answer-order-requires Inv-loop μ-loop
 answer-order-requires c κs =
-    let x = c .before .before .before .before .before in
-    let to = whose x (c .before .before .before .aim .given .1) in
+    let x = c .before .before .before .before .before .before in
+    let to = whose x (c .before .before .before .before .aim .given .1) in
     (some-cells _ _ _ (head x .loop .inv .0 .behind .held .ready) (to .0 .up), room x)
 
 mul-next : tie.Need-mul-next Inv-loop μ-loop
@@ -192,23 +192,23 @@ mul-next c = search needs
 
 element-set-from-next : tie.Need-element-set-from-next Inv-loop μ-loop
 element-set-from-next c =
-    let x = c .before .before .before .before .before .before .before .before .before in
-    let to = whose x (c .before .before .before .before .before .before .before .aim .given .1) in
+    let x = c .before .before .before .before .before .before .before .before .before .before in
+    let to = whose x (c .before .before .before .before .before .before .before .before .aim .given .1) in
     omega (arith, few-crew _ _ _ (head x .loop .inv .0 .behind .held .ready) (to .0 .up), to .0 .below)
 
 loop-less : tie.Need-loop-less Inv-loop μ-loop
-loop-less c = omega (arith, found (c .before .before .before .before .before .before .before .before .before) .if2 .left)
+loop-less c = omega (arith, found (c .before .before .before .before .before .before .before .before .before .before) .if2 .left)
 
 loop-again : tie.Need-loop-again Inv-loop μ-loop
 loop-again c =
-    let x = c .before .before .before .before .before .before .before .before .before in
+    let x = c .before .before .before .before .before .before .before .before .before .before in
     let v = head x .loop in
-    let to = whose x (c .before .before .before .before .before .before .before .aim .given .1) in
+    let to = whose x (c .before .before .before .before .before .before .before .before .aim .given .1) in
     let read = x .before .before .before .before .read-end in
     let r = c .before .before .before .answer-order in
     let a = order-line (v .inv .0 .behind .held .ready) to (r .ensures) in
     let line = read .kept .1 .0 in
-    let out = r .kept .1 .1 .1 .1 .1 .1 .0 in (
+    let out = r .kept .1 .1 .1 .1 .1 .1 .1 .0 in (
       next-line (v .inv .0) (inside x) (newline x .byte-at .ensures) (found x .if2 .left) (room x) (read .ensures) a _ line out refl,
       same-on (v .inv .1) line refl refl out,
     )
@@ -224,15 +224,15 @@ mul-answer-turn c = search needs
 
 element-copy-out-answer-turn : tie.Need-element-copy-out-answer-turn Inv-loop μ-loop
 element-copy-out-answer-turn c =
-    let v = head (c .before .before .before) .loop .inv .0 .behind in
-    let to = whose (c .before .before .before) (c .before .aim2 .given .1) in
+    let v = head (c .before .before .before .before) .loop .inv .0 .behind in
+    let to = whose (c .before .before .before .before) (c .before .before .aim2 .given .1) in
     omega (arith, few-crew _ _ _ (v .held .ready) (to .0 .up), to .0 .below)
 
 answer-turn-requires : tie.Need-answer-turn-requires Inv-loop μ-loop
 answer-turn-requires c κs =
-    let x = c .before .before .before .before .before .before in
+    let x = c .before .before .before .before .before .before .before in
     let ready = head x .loop .inv .0 .behind .held .ready in
-    let to = whose x (c .before .before .before .before .aim2 .given .1) in
+    let to = whose x (c .before .before .before .before .before .aim2 .given .1) in
     let good = good-worker _ _ _ ready (to .0 .up) _ (to .0 .below) in
     (good .0, (good .1, (omega (arith, ready .roomy .fits, ready .roomy .most), room x)))
 
@@ -241,24 +241,24 @@ mul-next-2 c = search needs
 
 element-set-from-next-2 : tie.Need-element-set-from-next-2 Inv-loop μ-loop
 element-set-from-next-2 c =
-    let x = c .before .before .before .before .before .before .before .before .before .before .before .before in
-    let to = whose x (c .before .before .before .before .before .before .before .before .before .before .aim2 .given .1) in
+    let x = c .before .before .before .before .before .before .before .before .before .before .before .before .before in
+    let to = whose x (c .before .before .before .before .before .before .before .before .before .before .before .aim2 .given .1) in
     omega (arith, few-crew _ _ _ (head x .loop .inv .0 .behind .held .ready) (to .0 .up), to .0 .below)
 
 loop-less-2 : tie.Need-loop-less-2 Inv-loop μ-loop
-loop-less-2 c = omega (arith, found (c .before .before .before .before .before .before .before .before .before .before .before .before) .if2 .left)
+loop-less-2 c = omega (arith, found (c .before .before .before .before .before .before .before .before .before .before .before .before .before) .if2 .left)
 
 loop-again-2 : tie.Need-loop-again-2 Inv-loop μ-loop
 loop-again-2 c =
-    let x = c .before .before .before .before .before .before .before .before .before .before .before .before in
+    let x = c .before .before .before .before .before .before .before .before .before .before .before .before .before in
     let v = head x .loop in
-    let to = whose x (c .before .before .before .before .before .before .before .before .before .before .aim2 .given .1) in
+    let to = whose x (c .before .before .before .before .before .before .before .before .before .before .before .aim2 .given .1) in
     let read = x .before .before .before .before .read-end in
     let r = c .before .before .before .before .before .answer-turn in
     let a = turn-line (v .inv .0 .behind .held .ready) to (r .ensures) in
     let line = read .kept .1 .0 in
-    let cells = r .kept .1 .1 .1 .1 .0 in
-    let out = r .kept .1 .1 .1 .1 .1 .1 .0 in (
+    let cells = r .kept .1 .1 .1 .1 .1 .0 in
+    let out = r .kept .1 .1 .1 .1 .1 .1 .1 .0 in (
       next-line (v .inv .0) (inside x) (newline x .byte-at .ensures) (found x .if2 .left) (room x) (read .ensures) a _ line out refl,
       same-on (v .inv .1) line cells refl out,
     )

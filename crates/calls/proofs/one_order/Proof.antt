@@ -25,14 +25,14 @@ returns c =
     let told = c .before .before in
     let b = told .before .before in
     let a = b .before .args in
-    one-taken gateway (a .kind) (a .length) (a .worker) (a .key) (a .price) (b .one-reply .ensures) (told .enum-told .given .1) (omega arith) _ _
+    one-taken gateway (a .kind) (a .hash) (a .length) (a .worker) (a .key) (a .price) (b .one-reply .ensures) (told .enum-told .given .1) (omega arith) _ _
     (c .entry-for .ensures) (c .before .home .ensures)
 
 returns-2 : tie.Need-returns-2
 returns-2 c =
     let b = c .before .before .before in
     let a = b .before .args in
-    one-refused gateway (a .kind) (a .length) (a .worker) (a .key) (a .price) _ (b .one-reply .ensures) (c .before .reply .given .1)
+    one-refused gateway (a .kind) (a .hash) (a .length) (a .worker) (a .key) (a .price) _ (b .one-reply .ensures) (c .before .reply .given .1)
 
 pub one-order-spec : {M : Type 1} → statement M
 one-order-spec =

@@ -34,7 +34,7 @@ returns c =
 
 loop-holds : tie.Need-loop-holds Inv-loop μ-loop
 loop-holds c =
-    let array = c .before .before .good .0 .1 .1 .1 .1 .1 .1 .0 .1 .0 .1 in
+    let array = c .before .before .good .0 .1 .1 .1 .1 .1 .1 .1 .0 .1 .0 .1 in
     none-passed _ _ (sym (c .before .numbers-ok .ensures) ∙ not-false _ (c .if1 .left)) (simp length-map at array)
 
 mul-w : tie.Need-mul-w Inv-loop μ-loop
@@ -114,13 +114,13 @@ mul-one-order c = search needs
 
 element-copy-out-one-order : tie.Need-element-copy-out-one-order Inv-loop μ-loop
 element-copy-out-one-order c =
-    let d = c .before .before .before in
+    let d = c .before .before .before .before in
     let a = d .before .before .before .before .before .args in
     let w = well-formed-says gateway (a .t1) .0 (passed-all _ _ _ (d .before .before .loop .inv) (d .before .loop-test .left)) in omega arith
 
 one-order-requires : tie.Need-one-order-requires Inv-loop μ-loop
 one-order-requires c κs =
-    let d = c .before .before .before .before in
+    let d = c .before .before .before .before .before in
     let a = d .before .before .before .before .before .args in
     let w = well-formed-says gateway (a .t1) .0 (passed-all _ _ _ (d .before .before .loop .inv) (d .before .loop-test .left)) in omega arith
 
@@ -129,19 +129,19 @@ mul-next c = search needs
 
 element-set-from-next : tie.Need-element-set-from-next Inv-loop μ-loop
 element-set-from-next c =
-    let d = c .before .before .before .before .before .before in
+    let d = c .before .before .before .before .before .before .before in
     let a = d .before .before .before .before .before .args in
     let w = well-formed-says gateway (a .t1) .0 (passed-all _ _ _ (d .before .before .loop .inv) (d .before .loop-test .left)) in omega arith
 
 returns-6 : tie.Need-returns-6 Inv-loop μ-loop
 returns-6 c =
-    let e = c .before .before .before .before .before in
+    let e = c .before .before .before .before .before .before in
     let d = e .before in
     let a = d .before .before .before .before .before .args in
     ap (with-given (a .t1) (e .asked-for .result .worker)) (c .before .one-order .ensures)
     ∙ asked-by-one gateway (a .t1) (a .found) (a .worker) (a .key) _ (e .asked-for .ensures)
-    (passed-all _ _ _ (d .before .before .loop .inv) (d .before .loop-test .left)) (d .if3 .left) (c .before .before .before .before .if4 .left)
-    (c .before .before .before .if5 .left)
+    (passed-all _ _ _ (d .before .before .loop .inv) (d .before .loop-test .left)) (d .if3 .left) (c .before .before .before .before .before .if4 .left)
+    (c .before .before .before .before .if5 .left)
 
 pub order-found-spec : {M : Type 1} → statement M
 order-found-spec =

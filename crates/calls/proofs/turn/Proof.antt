@@ -33,7 +33,7 @@ returns c =
 
 loop-holds : tie.Need-loop-holds Inv-loop μ-loop
 loop-holds c =
-    let array = c .before .before .before .good .0 .1 .1 .1 .1 .1 .1 .0 .1 .0 .1 in
+    let array = c .before .before .before .good .0 .1 .1 .1 .1 .1 .1 .1 .0 .1 .0 .1 in
     none-passed _ _ (sym (c .before .numbers-ok .ensures) ∙ not-false _ (c .if1 .left)) (simp length-map at array)
 
 mul-w : tie.Need-mul-w Inv-loop μ-loop
@@ -110,12 +110,13 @@ mul-one-turn c = search needs
 
 element-copy-out-one-turn : tie.Need-element-copy-out-one-turn Inv-loop μ-loop
 element-copy-out-one-turn c =
-    let a = c .before .before .before .before .before .before .before .before .before .args in
-    let w = well-formed-says gateway (a .t1) .0 (passed-all _ _ _ (c .before .before .before .before .before .loop .inv) (c .before .before .before .before .loop-test .left)) in omega arith
+    let d = c .before .before in
+    let a = d .before .before .before .before .before .before .before .before .args in
+    let w = well-formed-says gateway (a .t1) .0 (passed-all _ _ _ (d .before .before .before .before .loop .inv) (d .before .before .before .loop-test .left)) in omega arith
 
 one-turn-requires : tie.Need-one-turn-requires Inv-loop μ-loop
 one-turn-requires c κs =
-    let d = c .before .before in
+    let d = c .before .before .before in
     let a = d .before .before .before .before .before .before .before .before .args in (
       good-worker gateway (a .t1) (passed-all _ _ _ (d .before .before .before .before .loop .inv) (d .before .before .before .loop-test .left)) (a .worker) (d .if5 .left),
       d .before .if4 .left,
@@ -126,7 +127,7 @@ mul-next c = search needs
 
 element-set-from-next : tie.Need-element-set-from-next Inv-loop μ-loop
 element-set-from-next c =
-    let b = c .before .before .before .before .before in let d = b .before .before .before .before .before in
+    let b = c .before .before .before .before .before .before in let d = b .before .before .before .before .before in
     let a = d .before .before .before .before .args in
     let w = well-formed-says gateway (a .t1) .0 (passed-all _ _ _ (d .loop .inv) (b .before .before .before .before .loop-test .left)) in omega arith
 
@@ -135,7 +136,7 @@ same-length c = search needs
 
 returns-6 : tie.Need-returns-6 Inv-loop μ-loop
 returns-6 c =
-    let b = c .before .before .before .before .before in let d = b .before .before .before .before .before in
+    let b = c .before .before .before .before .before .before in let d = b .before .before .before .before .before in
     let a = d .before .before .before .before .args in
     let one = turn-by-one gateway (a .t1) (a .cells .now) (a .worker)
     (passed-all _ _ _ (d .loop .inv) (b .before .before .before .before .loop-test .left))

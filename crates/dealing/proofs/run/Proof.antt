@@ -115,7 +115,7 @@ loop2-again-2 c =
     let b = c .before .before .before in
     let v = b .before .before .before .before .before .before .before .before .loop2 .inv in (
       found-keeps gateway gateway-proper _ _ _ _ (v .0) (b .before .before .before .before .before .before .before .loop2-test .taken) _ (b .before .before .before .if3 .taken)
-          (b .one-find .ensures .0) (b .one-find .ensures .1) (c .before .is-kept .ensures (c .if4 .taken)),
+          (b .one-find .ensures _ .0) (b .one-find .ensures _ .1) (c .before .is-kept .ensures (c .if4 .taken)),
       v .1,
     )
 
@@ -145,7 +145,7 @@ loop2-again-3 c =
     let b = c .before .before .before .before .before in
     let v = b .before .before .before .before .before .before .before .before .loop2 .inv in (
       found-next gateway gateway-proper _ _ _ _ (v .0) (b .before .before .before .before .before .before .before .loop2-test .taken) _ (b .before .before .before .if3 .taken)
-          (b .one-find .ensures .0) (b .one-find .ensures .1) _ (c .finish-after .ensures),
+          (b .one-find .ensures _ .0) (b .one-find .ensures _ .1) _ (c .finish-after .ensures),
       v .1,
     )
 
@@ -156,7 +156,9 @@ element-copy-out-one-turn : tie.Need-element-copy-out-one-turn Inv-loop2 μ-loop
 element-copy-out-one-turn c = search needs
 
 one-turn-requires : tie.Need-one-turn-requires Inv-loop2 μ-loop2 Inv-loop μ-loop
-one-turn-requires c κs = lap-good gateway gateway-proper _ _ _ _ (c .before .before .before .before .before .before .before .loop2 .inv .0) (c .before .before .before .before .before .before .loop2-test .taken)
+one-turn-requires c κs =
+    let test = c .before .before .before .before .before .before .before in
+    lap-good gateway gateway-proper _ _ _ _ (test .before .loop2 .inv .0) (test .loop2-test .taken)
 
 mul-next : tie.Need-mul-next Inv-loop2 μ-loop2 Inv-loop μ-loop
 mul-next c = search needs
@@ -176,10 +178,10 @@ loop2-less-4 c = search needs
 loop2-again-4 : tie.Need-loop2-again-4 Inv-loop2 μ-loop2 Inv-loop μ-loop
 loop2-again-4 c =
     let b = c .before .before .before .before .before in
-    let v = b .before .before .before .before .before .before .before .before .loop2 .inv in (
-      lap-keeps gateway gateway-proper _ _ _ _ (v .0) (b .before .before .before .before .before .before .before .loop2-test .taken) _ _ (b .one-turn .ensures .0) (b .one-turn .ensures .1)
+    let v = b .before .before .before .before .before .before .before .before .before .loop2 .inv in (
+      lap-keeps gateway gateway-proper _ _ _ _ (v .0) (b .before .before .before .before .before .before .before .before .loop2-test .taken) _ _ (b .one-turn .ensures .0) (b .one-turn .ensures .1)
           (c .before .is-kept2 .ensures (c .if5 .taken)),
-      b .one-turn .kept .1 .1 .0 ∙ v .1,
+      b .one-turn .kept .1 .1 .1 .0 ∙ v .1,
     )
 
 mul-before : tie.Need-mul-before Inv-loop2 μ-loop2 Inv-loop μ-loop
@@ -206,10 +208,10 @@ loop2-less-5 c = search needs
 loop2-again-5 : tie.Need-loop2-again-5 Inv-loop2 μ-loop2 Inv-loop μ-loop
 loop2-again-5 c =
     let b = c .before .before .before .before .before .before .before in
-    let v = b .before .before .before .before .before .before .before .before .loop2 .inv in (
-      lap-next gateway gateway-proper _ _ _ _ (v .0) (b .before .before .before .before .before .before .before .loop2-test .taken) _ _ _ (b .one-turn .ensures .0) (b .one-turn .ensures .1)
+    let v = b .before .before .before .before .before .before .before .before .before .loop2 .inv in (
+      lap-next gateway gateway-proper _ _ _ _ (v .0) (b .before .before .before .before .before .before .before .before .loop2-test .taken) _ _ _ (b .one-turn .ensures .0) (b .one-turn .ensures .1)
           (c .finish-after2 .ensures),
-      b .one-turn .kept .1 .1 .0 ∙ v .1,
+      b .one-turn .kept .1 .1 .1 .0 ∙ v .1,
     )
 
 pub run-spec : {M : Type 1} → statement M

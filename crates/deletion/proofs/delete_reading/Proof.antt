@@ -9,14 +9,14 @@ reads-on-requires c κs = search needs
 
 returns : tie.Need-returns
 unfolding deleteStep
-returns c = simp (c .reads-on .ensures, lt-ltb _ _ (c .before .if1 .taken))
+returns c home = simp (c .reads-on .ensures, lt-ltb _ _ (c .before .if1 .taken))
 
 goes-requires : tie.Need-goes-requires
 goes-requires c κs = search needs
 
 returns-2 : tie.Need-returns-2
 unfolding deleteStep
-returns-2 c = simp (c .goes .ensures, le-ltb _ _ (c .before .if1 .left))
+returns-2 c home = simp (c .goes .ensures, le-ltb _ _ (c .before .if1 .left))
 
 pub delete-reading-spec : {M : Type 1} → statement M
 delete-reading-spec = tie.close (tie.spec reads-on-requires returns goes-requires returns-2)

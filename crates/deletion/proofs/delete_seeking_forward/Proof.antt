@@ -1,5 +1,6 @@
 use mathlib.Core.Path.{sym, _∙_}
 use borrow.Author.Needs.{needs}
+use Rattle.homes.specs.Homes.{spread}
 use Rattle.rule.specs.Rule.{deleteStep}
 use Rattle.deletion.proofs.delete_seeking_forward.Statement.{statement}
 use Rattle.deletion.proofs.delete_seeking_forward.Tie as tie
@@ -18,8 +19,8 @@ goes-requires c κs = search needs
 
 returns : tie.Need-returns
 unfolding deleteStep
-returns c = let d = c .before .before in
-    simp (c .goes .ensures, c .before .narrow .ensures, d .prev .ensures, sym (d .before .before .fits2 .ensures) ∙ d .before .if1 .taken)
+returns c = let d = c .before .before in let a = d .before .before .before .args in
+    simp (c .goes .ensures, c .before .narrow .ensures (spread (a .hash) (a .length)), d .prev .ensures, sym (d .before .before .fits2 .ensures) ∙ d .before .if1 .taken)
 
 next-requires : tie.Need-next-requires
 next-requires c κs = search needs

@@ -45,8 +45,7 @@ unfolding deleteStep
 returns c = simp (c .unmoved .ensures, c .before .enum-told .given .1)
 
 returns-2 : tie.Need-returns-2
-unfolding deleteStep
-returns-2 c = rw (c .before .before .activity .given .1) (simp (c .delete-reading .ensures))
+returns-2 c = rw (c .before .before .activity .given .1) (c .delete-reading .ensures _)
 
 returns-3 : tie.Need-returns-3
 unfolding deleteStep
@@ -61,8 +60,7 @@ unfolding deleteStep
 returns-5 c = rw (c .before .before .activity4 .given .1) (simp (c .delete-seeking-back .ensures))
 
 returns-6 : tie.Need-returns-6
-unfolding deleteStep
-returns-6 c = rw (c .before .before .activity5 .given .1) (simp (c .delete-replacing .ensures))
+returns-6 c = rw (c .before .before .activity5 .given .1) (c .delete-replacing .ensures _)
 
 pub delete-step-spec : {M : Type 1} → statement M
 delete-step-spec =

@@ -24,7 +24,7 @@ returns c = sym (ill-by-numbers _ _ (sym (c .before .numbers-ok .ensures) ∙ no
 
 loop-holds : tie.Need-loop-holds Inv-loop μ-loop
 loop-holds c =
-    let array = c .before .before .good .0 .1 .1 .1 .1 .1 .1 .0 .1 .0 .1 in
+    let array = c .before .before .good .0 .1 .1 .1 .1 .1 .1 .1 .0 .1 .0 .1 in
     none-passed _ _ (sym (c .before .numbers-ok .ensures) ∙ not-false _ (c .if1 .left)) (simp length-map at array)
 
 mul-w : tie.Need-mul-w Inv-loop μ-loop

@@ -104,7 +104,7 @@ loop-again c =
 
 mul-one-order : tie.Need-mul-one-order Inv-loop μ-loop
 mul-one-order c =
-    let d = c in
+    let d = c .before in
     let l = d .before .before .before .before .before .before .before .before .before in
     let at = l .before .loop in
     omega (
@@ -116,7 +116,7 @@ mul-one-order c =
 
 element-copy-out-one-order : tie.Need-element-copy-out-one-order Inv-loop μ-loop
 element-copy-out-one-order c =
-    let d = c in
+    let d = c .before in
     let l = d .before .before .before .before .before .before .before .before .before in
     let at = l .before .loop in
     omega (
@@ -127,11 +127,11 @@ element-copy-out-one-order c =
     )
 
 one-order-requires : tie.Need-one-order-requires Inv-loop μ-loop
-one-order-requires c κs = some-cells (c .before .before .before .before .before .before .before .before .before .before .before .loop .inv .2)
+one-order-requires c κs = some-cells (c .before .before .before .before .before .before .before .before .before .before .before .before .loop .inv .2)
 
 mul-ordered : tie.Need-mul-ordered Inv-loop μ-loop
 mul-ordered c =
-    let d = c .before .before .before in
+    let d = c .before .before .before .before in
     let l = d .before .before .before .before .before .before .before .before .before in
     let at = l .before .loop in
     omega (
@@ -143,7 +143,7 @@ mul-ordered c =
 
 element-set-from-ordered : tie.Need-element-set-from-ordered Inv-loop μ-loop
 element-set-from-ordered c =
-    let d = c .before .before .before in
+    let d = c .before .before .before .before in
     let l = d .before .before .before .before .before .before .before .before .before in
     let at = l .before .loop in
     omega (
@@ -158,20 +158,20 @@ reply-answer-requires c κs = search needs
 
 mul-answers-2 : tie.Need-mul-answers-2 Inv-loop μ-loop
 mul-answers-2 c =
-    let at = c .before .before .before .before .before .before .before .before .before .before .before .before .before .before in
+    let at = c .before .before .before .before .before .before .before .before .before .before .before .before .before .before .before in
     let f = at .before .before .before .before .before .before .before .before .before .before .before in
     omega (arith, f .good .1 .1 .1 .1 .1 .1 .1 .1 .1 .0, at .loop .inv .2 .same-answers)
 
 slice-write-answers-2 : tie.Need-slice-write-answers-2 Inv-loop μ-loop
 slice-write-answers-2 c =
-    let at = c .before .before .before .before .before .before .before .before .before .before .before .before .before .before .loop in omega (arith, at .inv .2 .same-answers)
+    let at = c .before .before .before .before .before .before .before .before .before .before .before .before .before .before .before .loop in omega (arith, at .inv .2 .same-answers)
 
 loop-less-2 : tie.Need-loop-less-2 Inv-loop μ-loop
 loop-less-2 c = omega arith
 
 loop-again-2 : tie.Need-loop-again-2 Inv-loop μ-loop
 loop-again-2 c =
-    let d = c .before .before .before .before in
+    let d = c .before .before .before .before .before in
     let l = d .before .before .before .before .before .before .before .before .before in
     let at = l .before .loop in (
       at .inv .0,
@@ -203,7 +203,7 @@ loop-again-3 c =
 
 mul-one-turn : tie.Need-mul-one-turn Inv-loop μ-loop
 mul-one-turn c =
-    let d = c .before in
+    let d = c .before .before in
     let at = d .before .before .before .before .before .before .before .before .before .loop in
     omega (
       arith,
@@ -213,7 +213,7 @@ mul-one-turn c =
 
 element-copy-out-one-turn : tie.Need-element-copy-out-one-turn Inv-loop μ-loop
 element-copy-out-one-turn c =
-    let d = c .before in
+    let d = c .before .before in
     let at = d .before .before .before .before .before .before .before .before .before .loop in
     omega (
       arith,
@@ -223,14 +223,14 @@ element-copy-out-one-turn c =
 
 one-turn-requires : tie.Need-one-turn-requires Inv-loop μ-loop
 one-turn-requires c κs =
-    let d = c .before .before in
+    let d = c .before .before .before in
     let at = d .before .before .before .before .before .before .before .before .before .loop in
     worker-fits (at .inv .2) _
     (turned-below (at .inv .2) (omega arith) (d .before .before .before .if1 .left) _ (d .before .before .barred .ensures) (d .before .if3 .left) (d .if4 .taken))
 
 mul-turned : tie.Need-mul-turned Inv-loop μ-loop
 mul-turned c =
-    let d = c .before .before .before .before .before .before in
+    let d = c .before .before .before .before .before .before .before in
     let at = d .before .before .before .before .before .before .before .before .before .loop in
     omega (
       arith,
@@ -240,7 +240,7 @@ mul-turned c =
 
 element-set-from-turned : tie.Need-element-set-from-turned Inv-loop μ-loop
 element-set-from-turned c =
-    let d = c .before .before .before .before .before .before in
+    let d = c .before .before .before .before .before .before .before in
     let at = d .before .before .before .before .before .before .before .before .before .loop in
     omega (
       arith,
@@ -253,20 +253,20 @@ turn-answer-requires c κs = search needs
 
 mul-answers-4 : tie.Need-mul-answers-4 Inv-loop μ-loop
 mul-answers-4 c =
-    let at = c .before .before .before .before .before .before .before .before .before .before .before .before .before .before .before .before in
+    let at = c .before .before .before .before .before .before .before .before .before .before .before .before .before .before .before .before .before in
     let f = at .before .before .before .before .before .before .before .before .before .before .before in
     omega (arith, f .good .1 .1 .1 .1 .1 .1 .1 .1 .1 .0, at .loop .inv .2 .same-answers)
 
 slice-write-answers-4 : tie.Need-slice-write-answers-4 Inv-loop μ-loop
 slice-write-answers-4 c =
-    let at = c .before .before .before .before .before .before .before .before .before .before .before .before .before .before .before .before .loop in omega (arith, at .inv .2 .same-answers)
+    let at = c .before .before .before .before .before .before .before .before .before .before .before .before .before .before .before .before .before .loop in omega (arith, at .inv .2 .same-answers)
 
 loop-less-4 : tie.Need-loop-less-4 Inv-loop μ-loop
 loop-less-4 c = omega arith
 
 loop-again-4 : tie.Need-loop-again-4 Inv-loop μ-loop
 loop-again-4 c =
-    let d = c .before .before .before .before .before .before .before in
+    let d = c .before .before .before .before .before .before .before .before in
     let at = d .before .before .before .before .before .before .before .before .before .loop in (
       at .inv .0,
       omega arith,

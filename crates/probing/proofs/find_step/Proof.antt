@@ -6,7 +6,6 @@ use types.Run.{OneOf, miss}
 use denote.Enum.Declared.{tagOf}
 use borrow.Author.Tests.{eq-eqb, le-ltb, lt-ltb, ne-eqb}
 use borrow.Author.Needs.{needs}
-use Rattle.layout.specs.Home.{modulo}
 use Rattle.prices.specs.Contents.{label}
 use Rattle.activities.specs.declared.Activity.{Activity}
 use Rattle.activities.specs.declared.Activity.the-variants.{Idle, Reading, Replacing, WalkingBack, SeekingForward, SeekingBack}
@@ -33,15 +32,15 @@ unmoved-requires c κs = search needs
 
 returns : tie.Need-returns
 unfolding findStep
-returns c = let a = c .before .before .args in
-    c .unmoved .ensures ∙ other (a .length) label (modulo (a .length)) (a .activity) (a .content) (c .before .match .keys2)
+returns c home = let a = c .before .before .args in
+    c .unmoved .ensures ∙ other (a .length) label home (a .activity) (a .content) (c .before .match .keys2)
 
 reads-on-requires : tie.Need-reads-on-requires
 reads-on-requires c κs = (rw (c .before .before .activity .given .1) at (c .before .before .before .before .pre)) .0
 
 returns-2 : tie.Need-returns-2
 unfolding findStep
-returns-2 c = rw (c .before .before .before .activity .given .1) (simp (c .reads-on .ensures, lt-ltb _ _ (c .before .if1 .taken)))
+returns-2 c home = rw (c .before .before .before .activity .given .1) (simp (c .reads-on .ensures, lt-ltb _ _ (c .before .if1 .taken)))
 
 price-of-requires : tie.Need-price-of-requires
 price-of-requires c κs = search needs
@@ -51,7 +50,7 @@ ends-requires c κs = search needs
 
 returns-3 : tie.Need-returns-3
 unfolding findStep
-returns-3 c = rw (c .before .before .before .before .before .activity .given .1)
+returns-3 c home = rw (c .before .before .before .before .before .activity .given .1)
     (simp (c .ends .ensures, c .before .price-of .ensures, eq-eqb _ _ (c .before .before .if2 .taken), le-ltb _ _ (c .before .before .before .if1 .left)))
 
 ends-requires-2 : tie.Need-ends-requires-2
@@ -59,7 +58,7 @@ ends-requires-2 c κs = search needs
 
 returns-4 : tie.Need-returns-4
 unfolding findStep
-returns-4 c = rw (c .before .before .before .before .activity .given .1) (simp (c .ends2 .ensures, ne-eqb _ _ (c .before .if2 .left), le-ltb _ _ (c .before .before .if1 .left)))
+returns-4 c home = rw (c .before .before .before .before .activity .given .1) (simp (c .ends2 .ensures, ne-eqb _ _ (c .before .if2 .left), le-ltb _ _ (c .before .before .if1 .left)))
 
 pub find-step-spec : {M : Type 1} → statement M
 find-step-spec =

@@ -5,7 +5,6 @@ use Prim.Native.Nat.{ℕ}
 use types.Run.{OneOf, miss}
 use denote.Enum.Declared.{tagOf}
 use borrow.Author.Needs.{needs}
-use Rattle.layout.specs.Home.{modulo}
 use Rattle.prices.specs.Contents.{label}
 use Rattle.activities.specs.declared.Activity.{Activity}
 use Rattle.activities.specs.declared.Activity.the-variants.{Idle, Reading, Replacing, WalkingBack, SeekingForward, SeekingBack}
@@ -41,16 +40,16 @@ unmoved-requires c κs = search needs
 
 returns : tie.Need-returns
 unfolding insertStep
-returns c = rw (c .before .before .activity .given .1) (simp (c .insert-reading .ensures))
+returns c home = rw (c .before .before .activity .given .1) (simp (c .insert-reading .ensures home))
 
 returns-2 : tie.Need-returns-2
 unfolding insertStep
-returns-2 c = rw (c .before .before .activity2 .given .1) (simp (c .insert-replacing .ensures))
+returns-2 c home = rw (c .before .before .activity2 .given .1) (simp (c .insert-replacing .ensures home))
 
 returns-3 : tie.Need-returns-3
 unfolding insertStep
-returns-3 c = let a = c .before .before .args in
-    c .unmoved .ensures ∙ other (a .length) label (modulo (a .length)) (a .activity) (a .content) (c .before .match .keys3)
+returns-3 c home = let a = c .before .before .args in
+    c .unmoved .ensures ∙ other (a .length) label home (a .activity) (a .content) (c .before .match .keys3)
 
 pub insert-step-spec : {M : Type 1} → statement M
 insert-step-spec =

@@ -20,11 +20,17 @@ enum-known-checked : tie.Need-enum-known-checked
 enum-known-checked c = search needs
 
 returns : tie.Need-returns
-returns c = ap counted.Count (c .count-keys .ensures) ∙ sym (count-by gateway (c .before .before .before .before .before .args .cells .now) Accepted (sym
-    (c .before .before .before .check .ensures) ∙ c .before .enum-told .given .1))
+returns c =
+    let checked = c .before .before .before in
+    let a = checked .before .before .args in
+    ap counted.Count (c .count-keys .ensures)
+    ∙ sym (count-by gateway (a .hash) (a .cells .now) Accepted (sym (checked .check .ensures) ∙ c .before .enum-told .given .1))
 
 returns-2 : tie.Need-returns-2
-returns-2 c = sym (count-by gateway (c .before .before .before .before .before .args .cells .now) (Refused _) (sym (c .before .before .before .check .ensures) ∙ c .before .checked .given .1))
+returns-2 c =
+    let checked = c .before .before .before in
+    let a = checked .before .before .args in
+    sym (count-by gateway (a .hash) (a .cells .now) (Refused _) (sym (checked .check .ensures) ∙ c .before .checked .given .1))
 
 pub count-spec : {M : Type 1} → statement M
 count-spec =

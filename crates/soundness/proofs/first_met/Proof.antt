@@ -1,24 +1,25 @@
--- One cell after the other from the home.
-use mathlib.Core.Path.{ap, _∙_}
-use Prim.Native.Nat.{_-_}
+-- One cell after the other from the home, c₀: the walk goes by it alone.
+use mathlib.Core.Path.{refl, ap, _∙_}
+use Prim.Native.Nat.{ℕ, _-_}
 use native.Mathlib.Nat.{mod-lt}
 use native.Mathlib.Omega.{arith}
 use borrow.Author.Needs.{needs}
 use lib.ListN.{length, getD}
 use Rattle.ring.specs.Ring.{dist}
-use Rattle.layout.specs.Home.{modulo}
+use Rattle.homes.specs.Homes.{spread}
 use Rattle.prices.specs.Contents.{label}
 use Rattle.prices.specs.Priced.{labels}
 use Rattle.flaws.specs.Flaws.{displacement}
+use Rattle.soundness.specs.Faulty.{firstMet}
 use Rattle.soundness.proofs.Meeting.{At, at-home, steps-on, nearer, is-met}
 use Rattle.soundness.proofs.first_met.Statement.{statement}
 use Rattle.soundness.proofs.first_met.Tie as tie
 
 abbrev Inv-loop : tie.InvT-loop
-Inv-loop cells j n key c₀ c = At (length cells) (modulo (length cells)) (labels label cells) j c
+Inv-loop cells j n key c₀ c = At (length cells) (λ _. c₀) (labels label cells) j c
 
 abbrev μ-loop : tie.MeasureT-loop
-μ-loop cells j n key c₀ c = displacement (length cells) (modulo (length cells)) (labels label cells) j - dist (length cells) (modulo (length cells) (getD (labels label cells) j 0)) c
+μ-loop cells j n key c₀ c = displacement (length cells) (λ _. c₀) (labels label cells) j - dist (length cells) c₀ c
 
 cast-n : tie.Need-cast-n Inv-loop μ-loop
 cast-n c = record { fits = omega (arith, c .before .pre .0) }
@@ -32,8 +33,7 @@ home-requires c κs = omega (arith, c .before .before .pre .1)
 loop-holds : tie.Need-loop-holds Inv-loop μ-loop
 loop-holds c =
     let start = c .before .before .before in
-    let n = length (start .args .cells .now) in
-    at-home n (modulo n) _ _ (start .pre .1) (mod-lt _ (omega (arith, start .pre .1))) (c .home .ensures ∙ ap (modulo n) (c .before .key-at .ensures))
+    at-home _ (λ _. _) _ _ (start .pre .1) (rw (c .home .ensures) (mod-lt _ (omega (arith, start .pre .1)))) refl
 
 key-at-requires-2 : tie.Need-key-at-requires-2 Inv-loop μ-loop
 key-at-requires-2 c κs = c .loop .inv .inside
@@ -45,14 +45,14 @@ loop-less : tie.Need-loop-less Inv-loop μ-loop
 loop-less c =
     let at = c .before .before .before in
     let start = at .before .before .before .before in
-    nearer _ (modulo (length (start .args .cells .now))) _ _ (start .pre .1) (mod-lt _ (omega (arith, start .pre .1))) (at .loop .inv)
+    nearer _ (λ _. _) _ _ (start .pre .1) (rw (at .before .home .ensures) (mod-lt _ (omega (arith, start .pre .1)))) (at .loop .inv)
     (omega (arith, at .before .before .key-at .ensures, c .before .before .key-at2 .ensures)) (c .next .ensures)
 
 loop-again : tie.Need-loop-again Inv-loop μ-loop
 loop-again c =
     let at = c .before .before .before in
     let start = at .before .before .before .before in
-    steps-on _ (modulo (length (start .args .cells .now))) _ _ (start .pre .1) (mod-lt _ (omega (arith, start .pre .1))) (at .loop .inv)
+    steps-on _ (λ _. _) _ _ (start .pre .1) (rw (at .before .home .ensures) (mod-lt _ (omega (arith, start .pre .1)))) (at .loop .inv)
     (omega (arith, at .before .before .key-at .ensures, c .before .before .key-at2 .ensures)) (c .next .ensures)
 
 cast-result : tie.Need-cast-result Inv-loop μ-loop
@@ -69,8 +69,10 @@ returns c =
     let at = c .before .before .before in
     let start = at .before .before .before .before in
     ap (λ i. getD (start .args .cells .now) i 0)
-    (is-met _ (modulo (length (start .args .cells .now))) _ _ (start .pre .1) (mod-lt _ (omega (arith, start .pre .1))) (at .loop .inv)
+    (is-met _ (λ _. _) _ _ (start .pre .1) (rw (at .before .home .ensures) (mod-lt _ (omega (arith, start .pre .1)))) (at .loop .inv)
     (omega (arith, at .before .before .key-at .ensures, c .before .before .key-at2 .ensures)))
+    ∙ ap (λ (h : ℕ). firstMet (λ _. h) (start .args .cells .now) (start .args .j))
+    (at .before .home .ensures ∙ ap (spread (start .args .hash) (length (start .args .cells .now))) (at .before .before .key-at .ensures))
 
 pub first-met-spec : {M : Type 1} → statement M
 first-met-spec =

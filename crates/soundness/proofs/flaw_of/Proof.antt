@@ -4,7 +4,7 @@ use native.Mathlib.Omega.{arith}
 use borrow.Author.Needs.{needs}
 use borrow.Author.Tests.{not-true, not-false}
 use lib.ListN.{length}
-use Rattle.layout.specs.Home.{modulo}
+use Rattle.homes.specs.Homes.{spread}
 use Rattle.ring.proofs.Each.{first-is}
 use Rattle.soundness.specs.Faulty.{isFaulty}
 use Rattle.soundness.proofs.Answer.{is-full, not-ok, is-sound, is-gap, is-disorder}
@@ -16,8 +16,9 @@ some-empty-requires c κs = search needs
 
 returns : tie.Need-returns
 returns c =
-    let cells = c .before .before .before .args .cells .now in
-    is-full (modulo (length cells)) cells (sym (c .before .some-empty .ensures) ∙ not-true _ (c .if1 .taken))
+    let start = c .before .before .before in
+    let cells = start .args .cells .now in
+    is-full (spread (start .args .hash) (length cells)) cells (sym (c .before .some-empty .ensures) ∙ not-true _ (c .if1 .taken))
 
 first-faulty-requires : tie.Need-first-faulty-requires
 first-faulty-requires c κs = search needs
@@ -36,14 +37,15 @@ all-ok-requires c κs = search needs
 returns-3 : tie.Need-returns-3
 returns-3 c =
     let gap = c .before .before .before .before in
-    let cells = gap .before .before .before .args .cells .now in
-    not-ok (modulo (length cells)) cells (sym (gap .before .some-empty .ensures) ∙ not-false _ (gap .if1 .left)) (sym (c .before .all-ok .ensures) ∙ not-true _ (c .if3 .taken))
+    let start = gap .before .before .before in
+    let cells = start .args .cells .now in
+    not-ok (spread (start .args .hash) (length cells)) cells (sym (gap .before .some-empty .ensures) ∙ not-false _ (gap .if1 .left)) (sym (c .before .all-ok .ensures) ∙ not-true _ (c .if3 .taken))
 
 first-met-requires : tie.Need-first-met-requires
 first-met-requires c κs =
     let start = c .before .before .before .before .before .before .before in
     let cells = start .args .cells .now in
-    (start .pre, omega (arith, c .before .before .before .first-faulty .ensures, first-is (isFaulty (modulo (length cells)) cells) (length cells) .within))
+    (start .pre, omega (arith, c .before .before .before .first-faulty .ensures, first-is (isFaulty (spread (start .args .hash) (length cells)) cells) (length cells) .within))
 
 returns-4 : tie.Need-returns-4
 returns-4 c =

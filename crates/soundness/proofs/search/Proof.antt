@@ -5,17 +5,17 @@ use native.Mathlib.Numerals.{add-one}
 use native.Mathlib.Omega.{arith}
 use borrow.Author.Needs.{needs}
 use lib.ListN.{length}
-use Rattle.layout.specs.Home.{modulo}
+use Rattle.homes.specs.Homes.{spread}
 use Rattle.soundness.proofs.Passing.{gave-none, gave-on, first-stops, first-ends}
 use Rattle.soundness.proofs.Skipping.{Come, come-behind}
 use Rattle.soundness.proofs.search.Statement.{statement}
 use Rattle.soundness.proofs.search.Tie as tie
 
 abbrev Inv-loop : tie.InvT-loop
-Inv-loop cells links₀ n j₀ links j = Come (modulo (length cells)) cells links j × (j ≤ length cells) × (length links ≡ length links₀)
+Inv-loop hash cells links₀ n j₀ links j = Come (spread hash (length cells)) cells links j × (j ≤ length cells) × (length links ≡ length links₀)
 
 abbrev μ-loop : tie.MeasureT-loop
-μ-loop cells links₀ n j₀ links j = length cells - j
+μ-loop hash cells links₀ n j₀ links j = length cells - j
 
 cast-n : tie.Need-cast-n Inv-loop μ-loop
 cast-n c = search needs

@@ -4,7 +4,7 @@ use borrow.Author.Needs.{needs}
 use borrow.Author.Tests.{not-true, not-false}
 use Rattle.ring.proofs.Tests.{within-says}
 use Rattle.state.specs.Model.{gateway}
-use Rattle.state.proofs.Soundness.{size-refused, size-passed}
+use Rattle.state.proofs.Soundness.{size-refused, hash-refused, hash-passed}
 use Rattle.state.proofs.Phase.check.Statement.{statement}
 use Rattle.state.proofs.Phase.check.Tie as tie
 
@@ -12,16 +12,33 @@ size-ok-requires : tie.Need-size-ok-requires
 size-ok-requires c κs = search needs
 
 returns : tie.Need-returns
-returns c = sym (size-refused gateway (c .before .before .before .args .cells .now) (sym (c .before .size-ok .ensures) ∙ not-true _ (c .if1 .taken)))
+returns c =
+    let a = c .before .before .before .args in
+    sym (size-refused gateway (a .hash) (a .cells .now) (sym (c .before .size-ok .ensures) ∙ not-true _ (c .if1 .taken)))
 
-soundness-requires : tie.Need-soundness-requires
-soundness-requires c κs =
-    within-says _ _ (length (c .before .before .before .args .cells .now)) .0 (sym (c .before .size-ok .ensures) ∙ not-false _ (c .if1 .left)) .1
+is-even-requires : tie.Need-is-even-requires
+is-even-requires c κs = search needs
 
 returns-2 : tie.Need-returns-2
 returns-2 c =
+    let size = c .before .before in
+    let a = size .before .before .before .args in
+    sym (hash-refused gateway (a .hash) (a .cells .now) (sym (size .before .size-ok .ensures) ∙ not-false _ (size .if1 .left))
+    (sym (c .before .is-even .ensures) ∙ c .if2 .taken))
+
+soundness-requires : tie.Need-soundness-requires
+soundness-requires c κs =
+    let size = c .before .before in
+    within-says _ _ (length (size .before .before .before .args .cells .now)) .0 (sym (size .before .size-ok .ensures) ∙ not-false _ (size .if1 .left)) .1
+
+returns-3 : tie.Need-returns-3
+returns-3 c =
+    let even = c .before in
+    let size = even .before .before in
+    let a = size .before .before .before .args in
     c .soundness .ensures
-    ∙ sym (size-passed gateway (c .before .before .before .before .args .cells .now) (sym (c .before .before .size-ok .ensures) ∙ not-false _ (c .before .if1 .left)))
+    ∙ sym (hash-passed gateway (a .hash) (a .cells .now) (sym (size .before .size-ok .ensures) ∙ not-false _ (size .if1 .left))
+    (sym (even .before .is-even .ensures) ∙ even .if2 .left))
 
 pub check-spec : {M : Type 1} → statement M
-check-spec = tie.close (tie.spec size-ok-requires returns soundness-requires returns-2)
+check-spec = tie.close (tie.spec size-ok-requires returns is-even-requires returns-2 soundness-requires returns-3)

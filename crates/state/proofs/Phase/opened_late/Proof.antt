@@ -55,7 +55,7 @@ fresh-requires c κs = search needs
 returns-5 : tie.Need-returns-5
 returns-5 c =
     let a = c .before .before .before .before .before .before .args in
-    open-accepted gateway 1 (a .crew) (a .cells .now) (lateBars (a .fault) (a .full)) _ (c .fresh .ensures)
+    open-accepted gateway 1 (a .crew) (a .hash) (a .cells .now) (lateBars (a .fault) (a .full)) _ (c .fresh .ensures)
     (simp (
       c .before .if4 .left,
       ne-eqb _ _ (c .before .before .if3 .left),

@@ -21,16 +21,16 @@ enum-told-4 : tie.Need-enum-told-4
 enum-told-4 c = search needs
 
 returns : tie.Need-returns
-returns c = flaw-reply gateway (c .before .before .before .before .args .cells .now) flaw.None _ (c .enum-told .given .1) (c .before .before .flaw-of .ensures)
+returns c = let a = c .before .before .before .before .args in flaw-reply gateway (a .hash) (a .cells .now) flaw.None _ (c .enum-told .given .1) (c .before .before .flaw-of .ensures)
 
 returns-2 : tie.Need-returns-2
-returns-2 c = flaw-reply gateway (c .before .before .before .before .args .cells .now) flaw.Cells _ (c .enum-told2 .given .1) (c .before .before .flaw-of .ensures)
+returns-2 c = let a = c .before .before .before .before .args in flaw-reply gateway (a .hash) (a .cells .now) flaw.Cells _ (c .enum-told2 .given .1) (c .before .before .flaw-of .ensures)
 
 returns-3 : tie.Need-returns-3
-returns-3 c = flaw-reply gateway (c .before .before .before .before .args .cells .now) flaw.Gap _ (c .enum-told3 .given .1) (c .before .before .flaw-of .ensures)
+returns-3 c = let a = c .before .before .before .before .args in flaw-reply gateway (a .hash) (a .cells .now) flaw.Gap _ (c .enum-told3 .given .1) (c .before .before .flaw-of .ensures)
 
 returns-4 : tie.Need-returns-4
-returns-4 c = flaw-reply gateway (c .before .before .before .before .args .cells .now) flaw.Disorder _ (c .enum-told4 .given .1) (c .before .before .flaw-of .ensures)
+returns-4 c = let a = c .before .before .before .before .args in flaw-reply gateway (a .hash) (a .cells .now) flaw.Disorder _ (c .enum-told4 .given .1) (c .before .before .flaw-of .ensures)
 
 pub soundness-spec : {M : Type 1} → statement M
 soundness-spec =
