@@ -3,7 +3,8 @@
 set -eu -o pipefail
 cd "$(dirname "$0")"
 rt check replay >/dev/null
-rt staticlib exports >/dev/null
+rt staticlib gateway >/dev/null
+rt staticlib kiosk >/dev/null
 export VULZEGAN_TARGET="$PWD/target"
 cargo build --quiet --release --offline --manifest-path reference/Cargo.toml
 cp reference/target/release/reference_replay "$VULZEGAN_TARGET/"

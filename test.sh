@@ -13,7 +13,7 @@ case $last in
   *' passed, 0 failed') ;;
   *) exit 1 ;;
 esac
-rt staticlib exports >/dev/null || exit 1
+rt staticlib gateway >/dev/null && rt staticlib kiosk >/dev/null || exit 1
 export VULZEGAN_TARGET="$PWD/target"
 cargo test --quiet --release --offline --manifest-path reference/Cargo.toml || exit 1
 cargo test --quiet --release --offline --manifest-path conformance/Cargo.toml || exit 1

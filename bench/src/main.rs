@@ -15,6 +15,7 @@ use reference::generate::till::{written, Quotes, Record};
 use reference::generate::Rng;
 use reference::layout::{content, label_of, layout, way_is_greater, Homes, Prices, MAX_PRICE};
 use reference::listing;
+use reference::model::{Model, GATEWAY, KIOSK};
 use reference::phase::{Activity, Order, Phase, LOOK_UP, PUT_IN, TAKE_OUT};
 use reference::till;
 
@@ -73,26 +74,27 @@ const HUNDREDS: Family = Family { name: "labels in steps of 100", label: |_, kno
 const SIDE_BY_SIDE: Family = Family { name: "41 homes side by side", label: |drawn, _, _| drawn / CELLS as u32 * CELLS as u32 + 4000 + drawn % 41 };
 
 impl Family {
-    /// A sound table of 8,192 cells with so many labels.
-    fn table(self, labels: usize, number: u32) -> Vec<u64> {
+    /// A sound table with so many labels.
+    fn table(self, cells: usize, labels: usize, number: u32) -> Vec<u64> {
         let mut random = Rng::new(7 + u64::from(number));
         let mut set = Prices::new();
         while set.len() < labels {
             let key = (self.label)(random.below(u32::MAX as usize) as u32, set.len() as u32, number);
             set.insert(key, price(key));
         }
-        layout(HOMES, CELLS, &set)
+        layout(HOMES, cells, &set)
     }
 
     /// The same by the share of the cells that are taken.
-    fn share(self, share: f64, number: u32) -> Vec<u64> {
-        self.table((share * CELLS as f64).round() as usize, number)
+    fn share(self, cells: usize, share: f64, number: u32) -> Vec<u64> {
+        self.table(cells, (share * cells as f64).round() as usize, number)
     }
 }
 
-/// So many rounds of a job that is done so many times in each, on the tables in turn.
+/// So many rounds of a job of a model that is done so many times in each, on the tables in turn.
 #[derive(Clone, Copy)]
 struct Work {
+    model: Model,
     rounds: usize,
     repeat: usize,
 }
@@ -109,27 +111,27 @@ impl Work {
         self.line(
             &format!("check, {name}"),
             tables,
-            |table| assert_eq!(conformance::check(homes, table), answer),
-            |table| assert_eq!(listing::check(homes, table), answer),
+            |table| assert_eq!(conformance::check(self.model, homes, table), answer),
+            |table| assert_eq!(listing::check(self.model, homes, table), answer),
         );
     }
 
     /// Check, count and list of sound tables with as many labels each.
     fn at_rest(self, name: &str, homes: Homes, tables: &[Vec<u64>]) {
         self.check(name, homes, tables, Ok(()));
-        let labels = listing::count(homes, &tables[0]);
+        let labels = listing::count(self.model, homes, &tables[0]);
         self.line(
             &format!("count, {name}"),
             tables,
-            |table| assert_eq!(conformance::count(homes, table), labels),
-            |table| assert_eq!(listing::count(homes, table), labels),
+            |table| assert_eq!(conformance::count(self.model, homes, table), labels),
+            |table| assert_eq!(listing::count(self.model, homes, table), labels),
         );
         let (mut ours, mut theirs) = (vec![0; tables[0].len()], vec![0; tables[0].len()]);
         self.line(
             &format!("list, {name}"),
             tables,
-            |table| assert_eq!(conformance::list(homes, table, &mut ours), labels),
-            |table| assert_eq!(listing::list(homes, table, &mut theirs), labels),
+            |table| assert_eq!(conformance::list(self.model, homes, table, &mut ours), labels),
+            |table| assert_eq!(listing::list(self.model, homes, table, &mut theirs), labels),
         );
         assert_eq!(ours, theirs);
     }
@@ -137,7 +139,7 @@ impl Work {
 
 /// Check, count and list of a family's tables.
 fn sound(family: Family, share: f64, work: Work) {
-    let tables: Vec<_> = (0..TABLES).map(|number| family.share(share, number)).collect();
+    let tables: Vec<_> = (0..TABLES).map(|number| family.share(CELLS, share, number)).collect();
     work.at_rest(&format!("{:.1} % full, {}", share * 100.0, family.name), HOMES, &tables);
 }
 
@@ -154,7 +156,7 @@ fn broken_late(table: &[u64], number: u8, change: impl Fn(&mut [u64], usize)) ->
         change(&mut table, at);
         table
     };
-    let late = |table: &Vec<u64>| lowest_broken(table).is_some_and(|at| at >= CELLS / 10 * 9) && listing::check(HOMES, table) == Err(number);
+    let late = |table: &Vec<u64>| lowest_broken(table).is_some_and(|at| at >= CELLS / 10 * 9) && listing::check(GATEWAY, HOMES, table) == Err(number);
     (1..CELLS).rev().map(changed).find(late)
 }
 
@@ -163,7 +165,7 @@ type Spoil = fn(u32) -> Option<Vec<u64>>;
 
 /// A price that no label has, in the last cell that is taken.
 fn wrong_price(number: u32) -> Option<Vec<u64>> {
-    let mut table = TAME.share(0.95, number);
+    let mut table = TAME.share(CELLS, 0.95, number);
     let last = table.iter().rposition(|&cell| cell != 0).expect("a label");
     table[last] = content(label_of(table[last]), MAX_PRICE + 1);
     Some(table)
@@ -171,7 +173,7 @@ fn wrong_price(number: u32) -> Option<Vec<u64>> {
 
 /// A label at home in the last empty cell.
 fn full(number: u32) -> Option<Vec<u64>> {
-    let mut table = TAME.table(CELLS - 1, number);
+    let mut table = TAME.table(CELLS, CELLS - 1, number);
     let empty = table.iter().position(|&cell| cell == 0).expect("an empty cell");
     table[empty] = content((CELLS + empty) as u32, 1);
     Some(table)
@@ -179,8 +181,8 @@ fn full(number: u32) -> Option<Vec<u64>> {
 
 /// Checks of tables that are not sound; nearly all cells are read.
 fn unsound() {
-    let hole: Spoil = |number| broken_late(&TAME.share(0.95, number), 17, |table, at| table[at] = 0);
-    let swapped: Spoil = |number| broken_late(&TAME.share(0.95, number), 18, |table, at| table.swap(at - 1, at));
+    let hole: Spoil = |number| broken_late(&TAME.share(CELLS, 0.95, number), 17, |table, at| table[at] = 0);
+    let swapped: Spoil = |number| broken_late(&TAME.share(CELLS, 0.95, number), 18, |table, at| table.swap(at - 1, at));
     for (name, spoil, number) in [
         ("refused with 4 for the price in the last cell, 95.0 % full", wrong_price as Spoil, 4),
         ("refused with 4, all cells taken", full, 4),
@@ -188,7 +190,7 @@ fn unsound() {
         ("refused with 18 near the end, 95.0 % full", swapped, 18),
     ] {
         let tables: Vec<_> = (0..).filter_map(spoil).take(TABLES as usize).collect();
-        Work { rounds: 61, repeat: 32 }.check(name, HOMES, &tables, Err(number));
+        Work { model: GATEWAY, rounds: 61, repeat: 32 }.check(name, HOMES, &tables, Err(number));
     }
 }
 
@@ -196,53 +198,59 @@ fn at_rest() {
     for family in [TAME, CROWDED] {
         for share in [0.1, 0.5, 0.95, 0.999] {
             let long = family.name == CROWDED.name && share > 0.4;
-            sound(family, share, Work { rounds: 61, repeat: if long { 16 } else { 32 } });
+            sound(family, share, Work { model: GATEWAY, rounds: 61, repeat: if long { 16 } else { 32 } });
         }
     }
     for share in [0.5, 0.95, 0.999] {
-        sound(HUNDREDS, share, Work { rounds: 61, repeat: 32 });
+        sound(HUNDREDS, share, Work { model: GATEWAY, rounds: 61, repeat: 32 });
     }
     // the reference takes more than 10 ms each time
-    sound(SIDE_BY_SIDE, 0.999, Work { rounds: 11, repeat: 4 });
+    sound(SIDE_BY_SIDE, 0.999, Work { model: GATEWAY, rounds: 11, repeat: 4 });
     unsound();
 }
 
-/// A shift of sixteen workers on 4,096 cells, about 60 % full, recorded once: its list, and orders and turns as chance deals them.
-fn recorded(kind: u64) -> Shift {
+/// A shift of as many workers as the model has, on a table that is about 60 % full, recorded once: its list, and orders and turns as chance deals them.
+/// A put-in shift sends its labels again when half of the cells' number are new.
+fn recorded(model: Model, cells: usize, kind: u64) -> Shift {
     let mut random = Rng::new(kind);
     let mut set = Prices::new();
-    while set.len() < if kind == 1 { 1200 } else { 2500 } {
+    let standing = if kind == 1 { 1200 } else { 2500 };
+    while set.len() < cells * standing / 4096 {
         let key = random.below(u32::MAX as usize) as u32 + 1;
         set.insert(key, price(key));
     }
-    let opening = layout(HOMES, 4096, &set);
-    let known: Vec<u32> = set.into_keys().collect();
+    let opening = layout(HOMES, cells, &set);
+    let mut known: Vec<u32> = if kind == 1 { Vec::new() } else { set.into_keys().collect() };
     let mut table = opening.clone();
     // The list is made on the way, so that each line is for the worker whose turn it is; an opening with a list leaves the same record.
-    let mut phase = Phase::open(kind, 16, HOMES, &table, &[]).expect("a sound table");
+    let mut phase = Phase::open(model, kind, model.max_workers as u64, HOMES, &table, &[]).expect("a sound table");
     let mut list = Vec::new();
     let mut calls = Vec::new();
     while calls.len() < 60_000 {
-        let worker = random.below(16) as u32;
+        let worker = random.below(model.max_workers) as u32;
         if phase.workers[worker as usize] == Activity::Idle && list.len() < 2000 {
-            let key = if kind == 1 { random.below(u32::MAX as usize) as u32 + 1 } else { known[random.below(known.len())] };
+            if kind == 1 && known.len() < cells / 2 {
+                known.push(random.below(u32::MAX as usize) as u32 + 1);
+            }
+            let key = if kind == 1 && list.len() < known.len() { known[list.len()] } else { known[random.below(known.len())] };
             let line = list.len() as u32;
             list.push(Order { worker, label: key, price: price(key) });
-            phase.order(&list, line.into(), worker.into(), key).expect("an order");
+            phase.order(model, &list, line.into(), worker.into(), key).expect("an order");
             calls.push(if kind == 1 { order_line(line) } else { order(worker, key) });
         } else if list.len() == 2000 && phase.all_idle() {
             break;
         } else {
-            phase.turn(&mut table, worker.into()).expect("a turn");
+            phase.turn(model, &mut table, worker.into()).expect("a turn");
             calls.push(turn(worker));
         }
     }
     calls.push(close());
-    Shift { kind, homes: HOMES, opening, orders: list, calls }
+    Shift { model, kind, homes: HOMES, opening, orders: list, calls }
 }
 
-/// A shift of sixteen workers that is known call by call.
+/// A shift of as many workers as the model has that is known call by call.
 struct Shift {
+    model: Model,
     kind: u64,
     homes: Homes,
     opening: Vec<u64>,
@@ -250,12 +258,13 @@ struct Shift {
     calls: Vec<Call>,
 }
 
-type Run = fn(&Calls, u64, u64, Homes, &mut [u64], &Orders, &mut [u64]) -> u64;
+type Run = fn(&Calls, Model, u64, u64, Homes, &mut [u64], &Orders, &mut [u64]) -> u64;
 
 impl Shift {
     /// Seconds of the whole shift.
     fn times(&self, run: Run) -> (f64, f64) {
-        let Shift { kind, homes, ref opening, ref orders, ref calls } = *self;
+        let Shift { model, kind, homes, ref opening, ref orders, ref calls } = *self;
+        let crew = model.max_workers as u64;
         let (list, lent) = (Calls::of(calls), Orders::of(orders));
         let (mut ours, mut theirs) = (opening.clone(), opening.clone());
         let (mut said, mut expected) = (vec![0; calls.len()], vec![0; calls.len()]);
@@ -263,11 +272,11 @@ impl Shift {
             61,
             || {
                 ours.copy_from_slice(opening);
-                seconds(|| assert_eq!(run(&list, kind, 16, homes, &mut ours, &lent, &mut said), 0))
+                seconds(|| assert_eq!(run(&list, model, kind, crew, homes, &mut ours, &lent, &mut said), 0))
             },
             || {
                 theirs.copy_from_slice(opening);
-                seconds(|| assert_eq!(reference_run(kind, 16, homes, &mut theirs, orders, calls, &mut expected), 0))
+                seconds(|| assert_eq!(reference_run(model, kind, crew, homes, &mut theirs, orders, calls, &mut expected), 0))
             },
         );
         assert_eq!((ours, said), (theirs, expected));
@@ -275,14 +284,24 @@ impl Shift {
     }
 }
 
-fn turns() {
+/// Shifts of a model on a table of so many cells; the name of each says where.
+fn turns(model: Model, cells: usize, place: &str) {
     for (kind, name) in [(1, "put in"), (2, "take out"), (3, "look up")] {
-        let shift = recorded(kind);
+        let shift = recorded(model, cells, kind);
         for (run, how) in [(Calls::run_singly as Run, "one call by value"), (Calls::run, "batch of calls")] {
             let per = 1e9 / shift.calls.len() as f64;
-            line(&format!("{how}, {name}, {} calls", shift.calls.len()), "ns", per, shift.times(run));
+            line(&format!("{how}, {place}{name}, {} calls", shift.calls.len()), "ns", per, shift.times(run));
         }
     }
+}
+
+/// The kiosk's longest table, at rest and with its greatest crew at work.
+fn kiosks() {
+    let cells = KIOSK.max_cells;
+    let place = format!("kiosk with {cells} cells, ");
+    let tables: Vec<_> = (0..TABLES).map(|number| TAME.share(cells, 0.95, number)).collect();
+    Work { model: KIOSK, rounds: 61, repeat: 1024 }.at_rest(&format!("{place}95.0 % full, {}", TAME.name), HOMES, &tables);
+    turns(KIOSK, cells, &place);
 }
 
 /// The label factory's case, with homes that crowd and homes that spread: whole shifts of sixteen workers as one batch, turns dealt round and round,
@@ -296,11 +315,11 @@ fn factory() {
         for (kind, opening, what) in [(PUT_IN, &empty, "put-in"), (LOOK_UP, &full, "look-up"), (TAKE_OUT, &full, "take-out")] {
             let steps = factory::shift(kind, homes, &mut opening.clone(), &orders);
             let calls = calls_of(kind, &orders, &steps);
-            let shift = Shift { kind: kind.into(), homes, opening: opening.clone(), orders: orders.clone(), calls };
+            let shift = Shift { model: GATEWAY, kind: kind.into(), homes, opening: opening.clone(), orders: orders.clone(), calls };
             line(&format!("whole {what} shift, {name}, {} calls", shift.calls.len()), "µs", 1e6, shift.times(Calls::run));
         }
         let tables: Vec<_> = (0..TABLES as usize).map(|number| factory::table_of(homes, &factory::later_orders(LABELS * number, LABELS))).collect();
-        Work { rounds: 61, repeat: 64 }.at_rest(&name, homes, &tables);
+        Work { model: GATEWAY, rounds: 61, repeat: 64 }.at_rest(&name, homes, &tables);
     }
 }
 
@@ -337,9 +356,9 @@ fn opening(case: &str, kind: u64, standing: &[u32], sent: &[u32], opens: bool) {
     let list: Vec<Order> = (0..65_536).zip(sent.iter().cycle()).map(listed).collect();
     let (lent, none) = (Orders::of(&list), Calls::default());
     let answer = if opens { 0 } else { REFUSED + 9 };
-    let reference = |table: &[u64]| seconds(|| assert_eq!(reference_open(kind, 16, HOMES, black_box(table), black_box(&list)), answer));
-    let structs = |table: &[u64]| seconds(|| assert_eq!(lent.open(kind, 16, HOMES, black_box(table)), answer));
-    let parallel = |table: &mut [u64]| seconds(|| assert_eq!(none.run(kind, 16, HOMES, black_box(table), &lent, &mut []), answer));
+    let reference = |table: &[u64]| seconds(|| assert_eq!(reference_open(GATEWAY, kind, 16, HOMES, black_box(table), black_box(&list)), answer));
+    let structs = |table: &[u64]| seconds(|| assert_eq!(lent.open(GATEWAY, kind, 16, HOMES, black_box(table)), answer));
+    let parallel = |table: &mut [u64]| seconds(|| assert_eq!(none.run(GATEWAY, kind, 16, HOMES, black_box(table), &lent, &mut []), answer));
     let set = |table: &[u64]| seconds(|| assert_eq!(room_by_set(black_box(table), black_box(&list)), opens));
     line(&format!("opening, {case}"), "µs", 1e6, alternate(31, || structs(&table), || reference(&table)));
     if kind == 1 {
@@ -448,13 +467,13 @@ fn tills() {
             || {
                 ours.iter_mut().for_each(|list| list.fill(0));
                 let [keys, prices, workers] = &mut ours;
-                let time = seconds(|| assert_eq!(read_till(black_box(&text), 16, [keys, prices, workers]), Ok(RECORDS)));
+                let time = seconds(|| assert_eq!(read_till(GATEWAY, black_box(&text), 16, [keys, prices, workers]), Ok(RECORDS)));
                 assert!(ours == columns);
                 time
             },
             || {
                 theirs.fill(Order { worker: 0, label: 0, price: 0 });
-                let time = seconds(|| assert_eq!(till::read(black_box(&text), 16, &mut theirs), Ok(RECORDS)));
+                let time = seconds(|| assert_eq!(till::read(GATEWAY, black_box(&text), 16, &mut theirs), Ok(RECORDS)));
                 assert!(theirs == expected);
                 time
             },
@@ -468,9 +487,10 @@ fn main() {
     let target = std::env::var("VULZEGAN_TARGET").expect("VULZEGAN_TARGET names rt's target folder");
     println!("| job | proved | reference | ratio |\n|---|---|---|---|");
     replays(&target);
-    turns();
+    turns(GATEWAY, 4096, "");
     tills();
     openings();
     at_rest();
     factory();
+    kiosks();
 }

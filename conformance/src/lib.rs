@@ -1,6 +1,7 @@
-//! Safe wrappers of the exported functions of crate `exports`, and their answers in the reference's terms.
+//! Safe wrappers of the exported functions of crates `gateway` and `kiosk`, and their answers in the reference's terms.
 
 use reference::layout::Homes;
+use reference::model::{Model, GATEWAY, KIOSK};
 use reference::phase::{Answer, Order, Phase};
 use reference::till;
 
@@ -15,7 +16,35 @@ mod raw {
         pub worker: u32,
     }
 
-    pub type RunCalls = unsafe extern "C" fn(
+    /// Functions with the same parameters, and their type.
+    macro_rules! functions {
+        ($type:ident $parameters:tt: $($name:ident)*) => {
+            pub type $type = unsafe extern "C" fn $parameters -> u64;
+            #[allow(clippy::too_many_arguments)]
+            extern "C" {
+                $(fn $name $parameters -> u64;)*
+            }
+        };
+    }
+
+    functions!(AtRest(a: u32, b: u32, cells: *const u64, length: usize):
+        vulzegan_check vulzegan_count vulzegan_kiosk_check vulzegan_kiosk_count);
+
+    functions!(List(a: u32, b: u32, cells: *const u64, length: usize, out: *mut u64, room: usize):
+        vulzegan_list vulzegan_kiosk_list);
+
+    functions!(Open(
+        kind: u64,
+        count: u64,
+        a: u32,
+        b: u32,
+        cells: *const u64,
+        length: usize,
+        orders: *const Order,
+        orders_length: usize,
+    ): vulzegan_open vulzegan_kiosk_open);
+
+    functions!(RunCalls(
         kind: u64,
         count: u64,
         a: u32,
@@ -38,85 +67,74 @@ mod raw {
         keys_length: usize,
         answers: *mut u64,
         answers_length: usize,
-    ) -> u64;
+    ): vulzegan_run_calls vulzegan_run_calls_singly vulzegan_kiosk_run_calls vulzegan_kiosk_run_calls_singly);
 
-    extern "C" {
-        pub fn vulzegan_check(a: u32, b: u32, cells: *const u64, length: usize) -> u64;
-        pub fn vulzegan_count(a: u32, b: u32, cells: *const u64, length: usize) -> u64;
-        pub fn vulzegan_list(a: u32, b: u32, cells: *const u64, length: usize, out: *mut u64, room: usize) -> u64;
-        #[allow(clippy::too_many_arguments)]
-        pub fn vulzegan_open(
-            kind: u64,
-            count: u64,
-            a: u32,
-            b: u32,
-            cells: *const u64,
-            length: usize,
-            orders: *const Order,
-            orders_length: usize,
-        ) -> u64;
-        #[allow(clippy::too_many_arguments)]
-        pub fn vulzegan_run_calls(
-            kind: u64,
-            count: u64,
-            a: u32,
-            b: u32,
-            cells: *mut u64,
-            length: usize,
-            order_keys: *const u32,
-            order_keys_length: usize,
-            order_prices: *const u32,
-            order_prices_length: usize,
-            order_workers: *const u32,
-            order_workers_length: usize,
-            ops: *const u32,
-            ops_length: usize,
-            lines: *const u32,
-            lines_length: usize,
-            workers: *const u32,
-            workers_length: usize,
-            keys: *const u32,
-            keys_length: usize,
-            answers: *mut u64,
-            answers_length: usize,
-        ) -> u64;
-        #[allow(clippy::too_many_arguments)]
-        pub fn vulzegan_run_calls_singly(
-            kind: u64,
-            count: u64,
-            a: u32,
-            b: u32,
-            cells: *mut u64,
-            length: usize,
-            order_keys: *const u32,
-            order_keys_length: usize,
-            order_prices: *const u32,
-            order_prices_length: usize,
-            order_workers: *const u32,
-            order_workers_length: usize,
-            ops: *const u32,
-            ops_length: usize,
-            lines: *const u32,
-            lines_length: usize,
-            workers: *const u32,
-            workers_length: usize,
-            keys: *const u32,
-            keys_length: usize,
-            answers: *mut u64,
-            answers_length: usize,
-        ) -> u64;
-        #[allow(clippy::too_many_arguments)]
-        pub fn vulzegan_read_till(
-            text: *const u8,
-            text_length: usize,
-            count: u64,
-            keys: *mut u32,
-            keys_length: usize,
-            prices: *mut u32,
-            prices_length: usize,
-            workers: *mut u32,
-            workers_length: usize,
-        ) -> u64;
+    functions!(ReadTill(
+        text: *const u8,
+        text_length: usize,
+        count: u64,
+        keys: *mut u32,
+        keys_length: usize,
+        prices: *mut u32,
+        prices_length: usize,
+        workers: *mut u32,
+        workers_length: usize,
+    ): vulzegan_read_till vulzegan_kiosk_read_till);
+
+    /// The functions of a model.
+    pub struct Functions {
+        pub check: AtRest,
+        pub count: AtRest,
+        pub list: List,
+        pub open: Open,
+        pub run_calls: RunCalls,
+        pub run_calls_singly: RunCalls,
+        pub read_till: ReadTill,
+    }
+
+    pub static GATEWAY: Functions = Functions {
+        check: vulzegan_check,
+        count: vulzegan_count,
+        list: vulzegan_list,
+        open: vulzegan_open,
+        run_calls: vulzegan_run_calls,
+        run_calls_singly: vulzegan_run_calls_singly,
+        read_till: vulzegan_read_till,
+    };
+
+    pub static KIOSK: Functions = Functions {
+        check: vulzegan_kiosk_check,
+        count: vulzegan_kiosk_count,
+        list: vulzegan_kiosk_list,
+        open: vulzegan_kiosk_open,
+        run_calls: vulzegan_kiosk_run_calls,
+        run_calls_singly: vulzegan_kiosk_run_calls_singly,
+        read_till: vulzegan_kiosk_read_till,
+    };
+}
+
+/// Both models.
+pub const MODELS: [Model; 2] = [GATEWAY, KIOSK];
+
+/// A test for each model of each of these functions, which take the model.
+#[macro_export]
+macro_rules! for_both_models {
+    ($($test:ident,)*) => {
+        mod gateway {
+            $(#[test] fn $test() { super::$test(reference::model::GATEWAY) })*
+        }
+        mod kiosk {
+            $(#[test] fn $test() { super::$test(reference::model::KIOSK) })*
+        }
+    };
+}
+
+/// The library's functions for a model.
+fn library(model: Model) -> &'static raw::Functions {
+    match model {
+        GATEWAY => &raw::GATEWAY,
+        KIOSK => &raw::KIOSK,
+        _ => panic!("the library has no functions for {model:?}"),
     }
 }
 
@@ -134,23 +152,23 @@ fn value(answer: u64) -> Result<usize, u8> {
     }
 }
 
-pub fn check(Homes { a, b }: Homes, cells: &[u64]) -> Result<(), u8> {
-    value(unsafe { raw::vulzegan_check(a, b, cells.as_ptr(), cells.len()) }).map(|accepted| assert_eq!(accepted, 0))
+pub fn check(model: Model, Homes { a, b }: Homes, cells: &[u64]) -> Result<(), u8> {
+    value(unsafe { (library(model).check)(a, b, cells.as_ptr(), cells.len()) }).map(|accepted| assert_eq!(accepted, 0))
 }
 
-pub fn count(Homes { a, b }: Homes, cells: &[u64]) -> Result<usize, u8> {
-    value(unsafe { raw::vulzegan_count(a, b, cells.as_ptr(), cells.len()) })
+pub fn count(model: Model, Homes { a, b }: Homes, cells: &[u64]) -> Result<usize, u8> {
+    value(unsafe { (library(model).count)(a, b, cells.as_ptr(), cells.len()) })
 }
 
-pub fn list(Homes { a, b }: Homes, cells: &[u64], out: &mut [u64]) -> Result<usize, u8> {
-    value(unsafe { raw::vulzegan_list(a, b, cells.as_ptr(), cells.len(), out.as_mut_ptr(), out.len()) })
+pub fn list(model: Model, Homes { a, b }: Homes, cells: &[u64], out: &mut [u64]) -> Result<usize, u8> {
+    value(unsafe { (library(model).list)(a, b, cells.as_ptr(), cells.len(), out.as_mut_ptr(), out.len()) })
 }
 
 /// Reads a till's list for so many workers into three lists, of keys, prices and workers; the number of records. Lists shorter than 2 to the power 32
 /// are lent, so that no count passes for a refusal.
-pub fn read_till(text: &[u8], count: u64, [keys, prices, workers]: [&mut [u32]; 3]) -> Result<usize, u8> {
+pub fn read_till(model: Model, text: &[u8], count: u64, [keys, prices, workers]: [&mut [u32]; 3]) -> Result<usize, u8> {
     value(unsafe {
-        raw::vulzegan_read_till(
+        (library(model).read_till)(
             text.as_ptr(),
             text.len(),
             count,
@@ -165,10 +183,10 @@ pub fn read_till(text: &[u8], count: u64, [keys, prices, workers]: [&mut [u32]; 
 }
 
 /// The same by the reference: its list has as many places as the shortest of the three.
-pub fn reference_read_till(text: &[u8], count: u64, [keys, prices, workers]: [&mut [u32]; 3]) -> Result<usize, u8> {
+pub fn reference_read_till(model: Model, text: &[u8], count: u64, [keys, prices, workers]: [&mut [u32]; 3]) -> Result<usize, u8> {
     let lines = keys.iter().zip(prices.iter()).zip(workers.iter());
     let mut orders: Vec<Order> = lines.map(|((&label, &price), &worker)| Order { worker, label, price }).collect();
-    let answer = till::read(text, count, &mut orders);
+    let answer = till::read(model, text, count, &mut orders);
     for (i, order) in orders.into_iter().enumerate() {
         (keys[i], prices[i], workers[i]) = (order.label, order.price, order.worker);
     }
@@ -194,8 +212,8 @@ impl Orders {
     }
 
     /// The answer of the opening with the list of structs.
-    pub fn open(&self, kind: u64, count: u64, Homes { a, b }: Homes, cells: &[u64]) -> u64 {
-        unsafe { raw::vulzegan_open(kind, count, a, b, cells.as_ptr(), cells.len(), self.structs.as_ptr(), self.structs.len()) }
+    pub fn open(&self, model: Model, kind: u64, count: u64, Homes { a, b }: Homes, cells: &[u64]) -> u64 {
+        unsafe { (library(model).open)(kind, count, a, b, cells.as_ptr(), cells.len(), self.structs.as_ptr(), self.structs.len()) }
     }
 }
 
@@ -276,13 +294,15 @@ impl Calls {
     }
 
     /// Opens a phase with the list of orders and applies the calls; the opening's answer.
-    pub fn run(&self, kind: u64, count: u64, homes: Homes, cells: &mut [u64], orders: &Orders, answers: &mut [u64]) -> u64 {
-        self.run_by(raw::vulzegan_run_calls, kind, count, homes, cells, orders, answers)
+    #[allow(clippy::too_many_arguments)]
+    pub fn run(&self, model: Model, kind: u64, count: u64, homes: Homes, cells: &mut [u64], orders: &Orders, answers: &mut [u64]) -> u64 {
+        self.run_by(library(model).run_calls, kind, count, homes, cells, orders, answers)
     }
 
     /// The same, each call by value with the record tested at each.
-    pub fn run_singly(&self, kind: u64, count: u64, homes: Homes, cells: &mut [u64], orders: &Orders, answers: &mut [u64]) -> u64 {
-        self.run_by(raw::vulzegan_run_calls_singly, kind, count, homes, cells, orders, answers)
+    #[allow(clippy::too_many_arguments)]
+    pub fn run_singly(&self, model: Model, kind: u64, count: u64, homes: Homes, cells: &mut [u64], orders: &Orders, answers: &mut [u64]) -> u64 {
+        self.run_by(library(model).run_calls_singly, kind, count, homes, cells, orders, answers)
     }
 }
 
@@ -303,21 +323,31 @@ fn told(answer: Answer) -> u64 {
 }
 
 /// The opening's answer by the reference.
-pub fn reference_open(kind: u64, count: u64, homes: Homes, cells: &[u64], orders: &[Order]) -> u64 {
-    Phase::open(kind, count, homes, cells, orders).map_or_else(refused, |_| 0)
+pub fn reference_open(model: Model, kind: u64, count: u64, homes: Homes, cells: &[u64], orders: &[Order]) -> u64 {
+    Phase::open(model, kind, count, homes, cells, orders).map_or_else(refused, |_| 0)
 }
 
 /// The opening and the calls by the reference.
-pub fn reference_run(kind: u64, count: u64, homes: Homes, cells: &mut [u64], orders: &[Order], calls: &[Call], answers: &mut [u64]) -> u64 {
-    let mut phase = match Phase::open(kind, count, homes, cells, orders) {
+#[allow(clippy::too_many_arguments)]
+pub fn reference_run(
+    model: Model,
+    kind: u64,
+    count: u64,
+    homes: Homes,
+    cells: &mut [u64],
+    orders: &[Order],
+    calls: &[Call],
+    answers: &mut [u64],
+) -> u64 {
+    let mut phase = match Phase::open(model, kind, count, homes, cells, orders) {
         Err(number) => return refused(number),
         Ok(phase) => phase,
     };
     for (call, place) in calls.iter().zip(answers) {
         *place = match call.op {
-            1 => phase.order(orders, call.line.into(), call.worker.into(), call.key).map_or_else(refused, |()| 0),
-            2 => phase.turn(cells, call.worker.into()).map_or_else(refused, told),
-            _ => phase.close().map_or_else(refused, |()| 0),
+            1 => phase.order(model, orders, call.line.into(), call.worker.into(), call.key).map_or_else(refused, |()| 0),
+            2 => phase.turn(model, cells, call.worker.into()).map_or_else(refused, told),
+            _ => phase.close(model).map_or_else(refused, |()| 0),
         };
     }
     0

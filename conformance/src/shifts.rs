@@ -3,6 +3,7 @@
 use reference::generate::factory::Step;
 use reference::generate::Rng;
 use reference::layout::{label_of, layout, price_of, Homes, Prices};
+use reference::model::Model;
 use reference::phase::{Activity, Order, Phase, PUT_IN, TAKE_OUT};
 
 use crate::{close, order, order_line, turn, Call};
@@ -27,8 +28,8 @@ pub fn closed(kind: u32, homes: Homes, table: &[u64], ordered: &[Entry]) -> Vec<
 }
 
 /// The calls of a shift with these orders, each for its worker, from the opening to the close: in put-in shifts by line, some twice.
-pub fn dealt(random: &mut Rng, kind: u32, crew: u32, homes: Homes, table: &[u64], orders: &[Order]) -> Vec<Call> {
-    let mut phase = Phase::open(kind.into(), crew.into(), homes, table, orders).expect("a sound table with room");
+pub fn dealt(random: &mut Rng, model: Model, kind: u32, crew: u32, homes: Homes, table: &[u64], orders: &[Order]) -> Vec<Call> {
+    let mut phase = Phase::open(model, kind.into(), crew.into(), homes, table, orders).expect("a sound table with room");
     let mut table = table.to_vec();
     let mut given = 0;
     let mut calls = Vec::new();
@@ -37,13 +38,13 @@ pub fn dealt(random: &mut Rng, kind: u32, crew: u32, homes: Homes, table: &[u64]
         match orders.get(next) {
             Some(o) if phase.workers[o.worker as usize] == Activity::Idle && random.once_in(2) => {
                 let call = if kind == PUT_IN { order_line(next as u32) } else { order(o.worker, o.label) };
-                phase.order(orders, call.line.into(), call.worker.into(), call.key).expect("an idle worker");
+                phase.order(model, orders, call.line.into(), call.worker.into(), call.key).expect("an idle worker");
                 calls.push(call);
                 given += usize::from(next == given);
             }
             _ => {
                 let worker = random.below(crew as usize) as u32;
-                phase.turn(&mut table, worker.into()).expect("a turn");
+                phase.turn(model, &mut table, worker.into()).expect("a turn");
                 calls.push(turn(worker));
             }
         }

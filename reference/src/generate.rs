@@ -16,6 +16,7 @@ pub mod till;
 use std::collections::BTreeSet;
 
 use crate::layout::{content, label_of, layout, least_prices, Homes, Prices, EMPTY, MAX_PRICE};
+use crate::model::GATEWAY;
 use crate::phase::{Activity, Order, Phase, PUT_IN};
 use crate::refusal;
 
@@ -497,7 +498,7 @@ impl Sheet {
         let Homes { a, b } = homes;
         self.line(&format!("open\t{kind}\t{workers}\t{a}\t{b}"));
         let (table, items) = (&self.table, &self.items);
-        self.phase = Phase::open(kind.into(), workers as u64, homes, table, items)?;
+        self.phase = Phase::open(GATEWAY, kind.into(), workers as u64, homes, table, items)?;
         self.homes = homes;
         Ok(())
     }
@@ -505,13 +506,13 @@ impl Sheet {
     /// An order of a put-in shift.
     fn place(&mut self, place: usize) {
         self.line(&format!("order\t{place}"));
-        let _ = self.phase.order(&self.items, place as u64, 0, 0);
+        let _ = self.phase.order(GATEWAY, &self.items, place as u64, 0, 0);
     }
 
     /// An order of the other shifts.
     fn order(&mut self, worker: usize, label: u32) {
         self.line(&format!("order\t{worker}\t{label}"));
-        let _ = self.phase.order(&[], 0, worker as u64, label);
+        let _ = self.phase.order(GATEWAY, &[], 0, worker as u64, label);
     }
 
     /// An order for that worker, of that label if it can be had.
@@ -535,21 +536,21 @@ impl Sheet {
 
     fn turn(&mut self, worker: usize) {
         self.line(&format!("turn\t{worker}"));
-        let _ = self.phase.turn(&mut self.table, worker as u64);
+        let _ = self.phase.turn(GATEWAY, &mut self.table, worker as u64);
     }
 
     fn run(&mut self) {
         self.line("run");
         while !self.phase.all_idle() {
             for worker in 0..self.phase.count {
-                let _ = self.phase.turn(&mut self.table, worker as u64);
+                let _ = self.phase.turn(GATEWAY, &mut self.table, worker as u64);
             }
         }
     }
 
     fn close(&mut self) {
         self.line("close");
-        if self.phase.close().is_ok() && self.phase.kind == PUT_IN {
+        if self.phase.close(GATEWAY).is_ok() && self.phase.kind == PUT_IN {
             self.items.clear();
         }
     }

@@ -1,10 +1,11 @@
-//! Reference implementation of the gateway's label table, written from
+//! Reference implementation of the label table in both models, written from
 //! documents 01 and 02 alone. It shares no code with the product.
 #![forbid(unsafe_code)]
 
 pub mod generate;
 pub mod layout;
 pub mod listing;
+pub mod model;
 pub mod phase;
 pub mod sheet;
 pub mod till;

@@ -1,15 +1,15 @@
 //! Check, count and list; they need no shift.
 
 use crate::layout::{label_of, soundness, Homes};
-use crate::phase::Phase;
+use crate::model::Model;
 use crate::refusal;
 
 /// Cells of a group.
 pub const GROUP: usize = 64;
 
 /// Is the table sound?
-pub fn check(homes: Homes, table: &[u64]) -> Result<(), u8> {
-    if !(Phase::MIN_CELLS..=Phase::MAX_CELLS).contains(&table.len()) {
+pub fn check(model: Model, homes: Homes, table: &[u64]) -> Result<(), u8> {
+    if !model.is_length(table.len()) {
         return Err(refusal::SIZE);
     }
     homes.check()?;
@@ -22,15 +22,15 @@ fn labelled(table: &[u64]) -> impl Iterator<Item = u64> + '_ {
 }
 
 /// The number of labels.
-pub fn count(homes: Homes, table: &[u64]) -> Result<usize, u8> {
-    check(homes, table)?;
+pub fn count(model: Model, homes: Homes, table: &[u64]) -> Result<usize, u8> {
+    check(model, homes, table)?;
     Ok(labelled(table).count())
 }
 
 /// Lists the cells with a label, in cell order, into the front of the lent
 /// list.
-pub fn list(homes: Homes, table: &[u64], lent: &mut [u64]) -> Result<usize, u8> {
-    let count = count(homes, table)?;
+pub fn list(model: Model, homes: Homes, table: &[u64], lent: &mut [u64]) -> Result<usize, u8> {
+    let count = count(model, homes, table)?;
     if lent.len() < count {
         return Err(refusal::SHORT_LIST);
     }
@@ -41,8 +41,13 @@ pub fn list(homes: Homes, table: &[u64], lent: &mut [u64]) -> Result<usize, u8> 
 }
 
 /// Lists and hands back the filled front part, empty where refused.
-pub fn list_front<'a>(homes: Homes, table: &[u64], lent: &'a mut [u64]) -> &'a mut [u64] {
-    let count = list(homes, table, lent).unwrap_or(0);
+pub fn list_front<'a>(
+    model: Model,
+    homes: Homes,
+    table: &[u64],
+    lent: &'a mut [u64],
+) -> &'a mut [u64] {
+    let count = list(model, homes, table, lent).unwrap_or(0);
     &mut lent[..count]
 }
 

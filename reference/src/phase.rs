@@ -3,6 +3,7 @@
 use crate::layout::{
     before, content, is_price, label_of, next, price_of, soundness, way_passes, Homes, EMPTY,
 };
+use crate::model::{Model, GATEWAY};
 use crate::refusal;
 
 pub const PUT_IN: u32 = 1;
@@ -67,7 +68,8 @@ pub struct Order {
     pub price: u32,
 }
 
-/// The shift record. The fields are open so that tests can forge records.
+/// The shift record, with room for the greatest crew of any model. The fields
+/// are open so that tests can forge records.
 #[derive(Clone, Debug, PartialEq, Eq, Hash)]
 pub struct Phase {
     pub kind: u32,
@@ -75,14 +77,12 @@ pub struct Phase {
     pub count: usize,
     pub open: bool,
     pub homes: Homes,
-    pub workers: [Activity; Phase::MAX_WORKERS],
+    pub workers: [Activity; Phase::WORKERS],
 }
 
 impl Phase {
-    pub const MIN_CELLS: usize = 2;
-    pub const MAX_CELLS: usize = 8192;
-    pub const MIN_WORKERS: usize = 1;
-    pub const MAX_WORKERS: usize = 16;
+    /// The places for workers.
+    pub const WORKERS: usize = GATEWAY.max_workers;
     pub const MAX_ORDERS: usize = 65_536;
 
     /// The shut record that stands for a refused opening.
@@ -93,23 +93,24 @@ impl Phase {
             count: 1,
             open: false,
             homes: Homes::PLAIN,
-            workers: [Idle; Phase::MAX_WORKERS],
+            workers: [Idle; Phase::WORKERS],
         }
     }
 
     /// Opens a shift on the table. A put-in shift is lent the list of orders;
     /// the other kinds don't read it.
     pub fn open(
+        model: Model,
         kind: u64,
         count: u64,
         homes: Homes,
         table: &[u64],
         orders: &[Order],
     ) -> Result<Phase, u8> {
-        if !is_length(table.len()) {
+        if !model.is_length(table.len()) {
             return Err(refusal::SIZE);
         }
-        if !(Phase::MIN_WORKERS as u64..=Phase::MAX_WORKERS as u64).contains(&count) {
+        if !model.is_crew(count) {
             return Err(refusal::CREW);
         }
         if !(1..=3).contains(&kind) {
@@ -135,7 +136,7 @@ impl Phase {
             count: count as usize,
             open: true,
             homes,
-            workers: [Idle; Phase::MAX_WORKERS],
+            workers: [Idle; Phase::WORKERS],
         })
     }
 
@@ -144,12 +145,13 @@ impl Phase {
     /// meant for the other.
     pub fn order(
         &mut self,
+        model: Model,
         orders: &[Order],
         line: u64,
         worker: u64,
         label: u32,
     ) -> Result<(), u8> {
-        if self.is_spoilt() {
+        if self.is_spoilt(model) {
             return Err(refusal::SPOILT);
         }
         if !self.open {
@@ -185,8 +187,8 @@ impl Phase {
     }
 
     /// Moves one worker by one turn.
-    pub fn turn(&mut self, table: &mut [u64], worker: u64) -> Result<Answer, u8> {
-        if self.is_spoilt() {
+    pub fn turn(&mut self, model: Model, table: &mut [u64], worker: u64) -> Result<Answer, u8> {
+        if self.is_spoilt(model) {
             return Err(refusal::SPOILT);
         }
         if !self.open {
@@ -207,8 +209,8 @@ impl Phase {
     }
 
     /// Ends the shift.
-    pub fn close(&mut self) -> Result<(), u8> {
-        if self.is_spoilt() {
+    pub fn close(&mut self, model: Model) -> Result<(), u8> {
+        if self.is_spoilt(model) {
             return Err(refusal::SPOILT);
         }
         if !self.open {
@@ -221,11 +223,11 @@ impl Phase {
         Ok(())
     }
 
-    /// Does the record break a bound?
-    pub fn is_spoilt(&self) -> bool {
+    /// Does the record break a bound of the model?
+    pub fn is_spoilt(&self, model: Model) -> bool {
         if !(PUT_IN..=LOOK_UP).contains(&self.kind)
-            || !is_length(self.length)
-            || !(Phase::MIN_WORKERS..=Phase::MAX_WORKERS).contains(&self.count)
+            || !model.is_length(self.length)
+            || !model.is_crew(self.count as u64)
         {
             return true;
         }
@@ -297,10 +299,6 @@ impl Activity {
             }
         }
     }
-}
-
-fn is_length(n: usize) -> bool {
-    (Phase::MIN_CELLS..=Phase::MAX_CELLS).contains(&n)
 }
 
 fn put_in(activity: &mut Activity, table: &mut [u64]) -> Answer {

@@ -1,9 +1,10 @@
-//! The replay of a shift sheet.
+//! The replay of a shift sheet, which is the gateway's.
 
 use std::io::{self, BufRead, Write};
 
 use crate::layout::{label_of, price_of, Homes};
 use crate::listing;
+use crate::model::GATEWAY;
 use crate::phase::{Activity, Answer, Order, Phase, PUT_IN};
 use crate::refusal;
 
@@ -134,21 +135,21 @@ impl Replay {
             Line::Open(kind, count, homes) => self.open(kind, count, homes).map(|()| Reply::Ok),
             Line::OrderItem(place) => self
                 .phase
-                .order(&self.items, place.into(), 0, 0)
+                .order(GATEWAY, &self.items, place.into(), 0, 0)
                 .map(|()| Reply::Ok),
             Line::Order(worker, label) => self
                 .phase
-                .order(&[], 0, worker.into(), label)
+                .order(GATEWAY, &[], 0, worker.into(), label)
                 .map(|()| Reply::Ok),
             Line::Turn(worker) => self
                 .phase
-                .turn(&mut self.table, worker.into())
+                .turn(GATEWAY, &mut self.table, worker.into())
                 .map(Reply::Turned),
             Line::Run => self.run().map(|()| Reply::Finishes(&self.finishes)),
             Line::Close => self.close().map(|()| Reply::Ok),
             Line::List => {
                 self.listed.resize(self.table.len(), 0);
-                listing::list(self.homes, &self.table, &mut self.listed)
+                listing::list(GATEWAY, self.homes, &self.table, &mut self.listed)
                     .map(|count| Reply::Listed(&self.listed[..count]))
             }
         };
@@ -156,7 +157,7 @@ impl Replay {
     }
 
     fn cells(&mut self, length: u32) -> Result<(), u8> {
-        if !(Phase::MIN_CELLS as u32..=MAX_SHEET_CELLS).contains(&length) {
+        if !(GATEWAY.min_cells as u32..=MAX_SHEET_CELLS).contains(&length) {
             return Err(refusal::SIZE);
         }
         self.table.clear();
@@ -165,14 +166,21 @@ impl Replay {
     }
 
     fn open(&mut self, kind: u32, count: u32, homes: Homes) -> Result<(), u8> {
-        self.phase = Phase::open(kind.into(), count.into(), homes, &self.table, &self.items)?;
+        self.phase = Phase::open(
+            GATEWAY,
+            kind.into(),
+            count.into(),
+            homes,
+            &self.table,
+            &self.items,
+        )?;
         self.homes = homes;
         Ok(())
     }
 
     /// The close of a put-in shift ends its list.
     fn close(&mut self) -> Result<(), u8> {
-        self.phase.close()?;
+        self.phase.close(GATEWAY)?;
         if self.phase.kind == PUT_IN {
             self.items.clear();
         }
@@ -191,7 +199,7 @@ impl Replay {
                 if self.phase.workers[worker] == Activity::Idle {
                     continue; // its turn would change nothing
                 }
-                let answer = self.phase.turn(&mut self.table, worker as u64)?;
+                let answer = self.phase.turn(GATEWAY, &mut self.table, worker as u64)?;
                 if answer != Answer::WentOn {
                     self.finishes[worker] = Some(answer);
                 }

@@ -1,7 +1,8 @@
 //! Till lists: comma-separated text after RFC 4180, without a header. Each
 //! record is a label and a price.
 
-use crate::phase::{Order, Phase};
+use crate::model::Model;
+use crate::phase::Order;
 use crate::refusal;
 use crate::sheet::read_number;
 
@@ -17,8 +18,8 @@ fn is_textdata(byte: u8) -> bool {
 
 /// Reads the records into the front of the lent list, their workers dealt in
 /// turn from 0 below `count`. Gives the number of records.
-pub fn read(text: &[u8], count: u64, orders: &mut [Order]) -> Result<usize, u8> {
-    if !(Phase::MIN_WORKERS as u64..=Phase::MAX_WORKERS as u64).contains(&count) {
+pub fn read(model: Model, text: &[u8], count: u64, orders: &mut [Order]) -> Result<usize, u8> {
+    if !model.is_crew(count) {
         return Err(refusal::CREW);
     }
     let records = Rest(text).file()?;

@@ -3,6 +3,7 @@
 
 use reference::layout::{content, is_sound, layout, Homes, Prices};
 use reference::listing::{check, count, list, list_front, taken_word};
+use reference::model::GATEWAY;
 use reference::phase::{Activity, Answer, Order, Phase, LOOK_UP, PUT_IN, TAKE_OUT};
 use reference::sheet::replay_bytes;
 
@@ -33,32 +34,39 @@ fn list_of(labels: &[u32]) -> Vec<Order> {
 
 /// Opens a shift without a list.
 fn open(kind: u64, count: u64, table: &[u64]) -> Result<Phase, u8> {
-    Phase::open(kind, count, Homes::PLAIN, table, &[])
+    Phase::open(GATEWAY, kind, count, Homes::PLAIN, table, &[])
 }
 
 /// Gives a worker a label to take out or look up.
 fn order(phase: &mut Phase, worker: u64, label: u32) -> Result<(), u8> {
-    phase.order(&[], 0, worker, label)
+    phase.order(GATEWAY, &[], 0, worker, label)
 }
 
 /// Opens a shift, gives each label to its worker, runs it and closes.
 fn shift(kind: u32, table: &mut [u64], labels: &[u32]) -> Vec<Answer> {
     let list = list_of(labels);
-    let mut phase =
-        Phase::open(kind.into(), labels.len() as u64, Homes::PLAIN, table, &list).unwrap();
+    let mut phase = Phase::open(
+        GATEWAY,
+        kind.into(),
+        labels.len() as u64,
+        Homes::PLAIN,
+        table,
+        &list,
+    )
+    .unwrap();
     for (worker, &label) in (0..).zip(labels) {
-        phase.order(&list, worker, worker, label).unwrap();
+        phase.order(GATEWAY, &list, worker, worker, label).unwrap();
     }
     let mut answers = vec![Answer::Idle; labels.len()];
     while !phase.all_idle() {
         for (worker, finish) in answers.iter_mut().enumerate() {
-            let answer = phase.turn(table, worker as u64).unwrap();
+            let answer = phase.turn(GATEWAY, table, worker as u64).unwrap();
             if !matches!(answer, Answer::WentOn | Answer::Idle) {
                 *finish = answer;
             }
         }
     }
-    phase.close().unwrap();
+    phase.close(GATEWAY).unwrap();
     answers
 }
 
@@ -147,9 +155,9 @@ fn two_cells() {
     let table = layout(Homes::PLAIN, 2, &set(&[7]));
     assert_eq!(table, cells([0, 7]));
     // Document 02: the shift opens for a list of 7 alone.
-    assert!(Phase::open(1, 1, Homes::PLAIN, &table, &list_of(&[7])).is_ok());
+    assert!(Phase::open(GATEWAY, 1, 1, Homes::PLAIN, &table, &list_of(&[7])).is_ok());
     assert_eq!(
-        Phase::open(1, 1, Homes::PLAIN, &table, &list_of(&[1])),
+        Phase::open(GATEWAY, 1, 1, Homes::PLAIN, &table, &list_of(&[1])),
         Err(9)
     );
 }
@@ -173,11 +181,11 @@ fn unsound_tables() {
     ] {
         let table = cells(table);
         assert!(!is_sound(Homes::PLAIN, &table));
-        assert_eq!(check(Homes::PLAIN, &table), Err(number));
-        assert_eq!(count(Homes::PLAIN, &table), Err(number));
+        assert_eq!(check(GATEWAY, Homes::PLAIN, &table), Err(number));
+        assert_eq!(count(GATEWAY, Homes::PLAIN, &table), Err(number));
         let mut lent = [77; 1];
-        assert_eq!(list(Homes::PLAIN, &table, &mut lent), Err(number));
-        assert!(list_front(Homes::PLAIN, &table, &mut lent).is_empty());
+        assert_eq!(list(GATEWAY, Homes::PLAIN, &table, &mut lent), Err(number));
+        assert!(list_front(GATEWAY, Homes::PLAIN, &table, &mut lent).is_empty());
         assert_eq!(lent, [77]);
         for kind in 1..=3 {
             assert_eq!(open(kind, 1, &table), Err(number));
@@ -198,9 +206,12 @@ fn lengths() {
         for kind in 1..=3 {
             assert_eq!(open(kind, 1, &table).map(|_| ()), answer);
         }
-        assert_eq!(check(Homes::PLAIN, &table), answer);
-        assert_eq!(count(Homes::PLAIN, &table), answer.map(|()| 0));
-        assert_eq!(list(Homes::PLAIN, &table, &mut []), answer.map(|()| 0));
+        assert_eq!(check(GATEWAY, Homes::PLAIN, &table), answer);
+        assert_eq!(count(GATEWAY, Homes::PLAIN, &table), answer.map(|()| 0));
+        assert_eq!(
+            list(GATEWAY, Homes::PLAIN, &table, &mut []),
+            answer.map(|()| 0)
+        );
     }
 }
 
@@ -240,11 +251,11 @@ fn a_shift_without_orders_keeps_its_table() {
         let mut table = cells([4, 3, 0, 13, 8]);
         let mut phase = open(kind, 16, &table).unwrap();
         for worker in 0..16 {
-            assert_eq!(phase.turn(&mut table, worker), Ok(Answer::Idle));
+            assert_eq!(phase.turn(GATEWAY, &mut table, worker), Ok(Answer::Idle));
         }
-        assert_eq!(phase.close(), Ok(()));
+        assert_eq!(phase.close(GATEWAY), Ok(()));
         assert_eq!(table, cells([4, 3, 0, 13, 8]));
-        assert_eq!(phase.close(), Err(11));
+        assert_eq!(phase.close(GATEWAY), Err(11));
     }
     assert_eq!(
         replay("cells 5\nopen 1 16 1 0\nclose\nlist\n"),
@@ -275,14 +286,14 @@ fn order_refuses_in_order() {
         assert_eq!(order(&mut phase, 0, 0), Err(8));
         assert_eq!(order(&mut phase, 1, 5), Ok(()));
         assert_eq!(order(&mut phase, 1, 5), Err(8));
-        assert_eq!(phase.close(), Err(10));
+        assert_eq!(phase.close(GATEWAY), Err(10));
         let mut table = [0, 0, 0];
         while !phase.all_idle() {
-            phase.turn(&mut table, 0).unwrap();
-            phase.turn(&mut table, 1).unwrap();
+            phase.turn(GATEWAY, &mut table, 0).unwrap();
+            phase.turn(GATEWAY, &mut table, 1).unwrap();
         }
         assert_eq!(order(&mut phase, 1, 0), Err(7));
-        assert_eq!(phase.close(), Ok(()));
+        assert_eq!(phase.close(GATEWAY), Ok(()));
         assert_eq!(order(&mut phase, 2, 0), Err(11));
         phase.length = 1;
         assert_eq!(order(&mut phase, 2, 0), Err(13));
@@ -292,25 +303,25 @@ fn order_refuses_in_order() {
 #[test]
 fn turn_refuses_in_order() {
     let mut phase = open(3, 2, &[0, 0, 0]).unwrap();
-    assert_eq!(phase.turn(&mut [0, 0], 2), Err(5));
-    assert_eq!(phase.turn(&mut [0, 0, 0], 2), Err(6));
-    assert_eq!(phase.turn(&mut [0, 0, 0], 1 << 32), Err(6));
-    phase.close().unwrap();
-    assert_eq!(phase.turn(&mut [0, 0], 2), Err(11));
+    assert_eq!(phase.turn(GATEWAY, &mut [0, 0], 2), Err(5));
+    assert_eq!(phase.turn(GATEWAY, &mut [0, 0, 0], 2), Err(6));
+    assert_eq!(phase.turn(GATEWAY, &mut [0, 0, 0], 1 << 32), Err(6));
+    phase.close(GATEWAY).unwrap();
+    assert_eq!(phase.turn(GATEWAY, &mut [0, 0], 2), Err(11));
     phase.count = 0;
-    assert_eq!(phase.turn(&mut [0, 0], 2), Err(13));
-    assert_eq!(phase.close(), Err(13));
+    assert_eq!(phase.turn(GATEWAY, &mut [0, 0], 2), Err(13));
+    assert_eq!(phase.close(GATEWAY), Err(13));
 }
 
 #[test]
 fn spoilt_records() {
     let sound = open(2, 2, &[0; 5]).unwrap();
-    assert!(!sound.is_spoilt());
-    assert!(!Phase::shut().is_spoilt());
+    assert!(!sound.is_spoilt(GATEWAY));
+    assert!(!Phase::shut().is_spoilt(GATEWAY));
     let spoilt = |change: &dyn Fn(&mut Phase)| {
         let mut phase = sound.clone();
         change(&mut phase);
-        phase.is_spoilt()
+        phase.is_spoilt(GATEWAY)
     };
     assert!(spoilt(&|p| p.kind = 0));
     assert!(spoilt(&|p| p.kind = 4));
@@ -381,19 +392,19 @@ fn spoilt_records() {
 #[test]
 fn listing() {
     let table = cells([4, 3, 0, 13, 8]);
-    assert_eq!(check(Homes::PLAIN, &table), Ok(()));
-    assert_eq!(count(Homes::PLAIN, &table), Ok(4));
+    assert_eq!(check(GATEWAY, Homes::PLAIN, &table), Ok(()));
+    assert_eq!(count(GATEWAY, Homes::PLAIN, &table), Ok(4));
     let mut short = [77; 3];
-    assert_eq!(list(Homes::PLAIN, &table, &mut short), Err(12));
-    assert!(list_front(Homes::PLAIN, &table, &mut short).is_empty());
+    assert_eq!(list(GATEWAY, Homes::PLAIN, &table, &mut short), Err(12));
+    assert!(list_front(GATEWAY, Homes::PLAIN, &table, &mut short).is_empty());
     assert_eq!(short, [77; 3]);
     let mut lent = [77; 6];
-    assert_eq!(list(Homes::PLAIN, &table, &mut lent), Ok(4));
+    assert_eq!(list(GATEWAY, Homes::PLAIN, &table, &mut lent), Ok(4));
     let listed = [cell(4), cell(3), cell(13), cell(8), 77, 77];
     assert_eq!(lent, listed);
     let mut lent = [77; 6];
     assert_eq!(
-        list_front(Homes::PLAIN, &table, &mut lent),
+        list_front(GATEWAY, Homes::PLAIN, &table, &mut lent),
         cells([4, 3, 13, 8])
     );
     assert_eq!(lent, listed);
@@ -406,7 +417,7 @@ fn taken_words_place_the_groups() {
     let words: Vec<u64> = (0..4).map(|group| taken_word(&table, group)).collect();
     assert_eq!(words[3] >> 8, 0);
     let ones = |words: &[u64]| words.iter().map(|w| w.count_ones() as usize).sum::<usize>();
-    assert_eq!(count(Homes::PLAIN, &table), Ok(ones(&words)));
+    assert_eq!(count(GATEWAY, Homes::PLAIN, &table), Ok(ones(&words)));
     // The groups backwards give the same list.
     let mut by_groups = vec![0; labels.len()];
     for group in (0..4).rev() {
@@ -419,7 +430,7 @@ fn taken_words_place_the_groups() {
         }
     }
     let mut lent = vec![0; labels.len()];
-    list(Homes::PLAIN, &table, &mut lent).unwrap();
+    list(GATEWAY, Homes::PLAIN, &table, &mut lent).unwrap();
     assert_eq!(lent, by_groups);
 }
 
@@ -531,11 +542,11 @@ fn a_take_out_by_hand() {
         ),
     ];
     for (activity, left) in steps {
-        assert_eq!(phase.turn(&mut table, 0), Ok(Answer::WentOn));
+        assert_eq!(phase.turn(GATEWAY, &mut table, 0), Ok(Answer::WentOn));
         assert_eq!(phase.workers[0], activity);
         assert_eq!(table, cells(left));
     }
-    assert_eq!(phase.turn(&mut table, 0), Ok(Answer::Finished));
+    assert_eq!(phase.turn(GATEWAY, &mut table, 0), Ok(Answer::Finished));
     assert_eq!(table, cells([3, 0, 0, 13, 4]));
 }
 
@@ -545,7 +556,7 @@ fn seeking_back() -> (Phase, [u64; 5]) {
     let mut phase = open(2, 3, &table).unwrap();
     order(&mut phase, 0, 20).unwrap();
     for _ in 0..4 {
-        phase.turn(&mut table, 0).unwrap();
+        phase.turn(GATEWAY, &mut table, 0).unwrap();
     }
     let seeking = Activity::Seeking {
         entry: cell(20),
@@ -555,7 +566,7 @@ fn seeking_back() -> (Phase, [u64; 5]) {
     };
     assert_eq!(phase.workers[0], seeking);
     order(&mut phase, 1, 16).unwrap();
-    while phase.turn(&mut table, 1).unwrap() == Answer::WentOn {}
+    while phase.turn(GATEWAY, &mut table, 1).unwrap() == Answer::WentOn {}
     assert_eq!(table, cells([20, 5, 0, 0, 0]));
     (phase, table)
 }
@@ -563,7 +574,7 @@ fn seeking_back() -> (Phase, [u64; 5]) {
 #[test]
 fn a_nearer_label_is_taken() {
     let (mut phase, mut table) = seeking_back();
-    phase.turn(&mut table, 0).unwrap();
+    phase.turn(GATEWAY, &mut table, 0).unwrap();
     let replacing = Activity::Replacing {
         entry: cell(20),
         cell: 0,
@@ -571,7 +582,7 @@ fn a_nearer_label_is_taken() {
         from: 1,
     };
     assert_eq!(phase.workers[0], replacing);
-    while phase.turn(&mut table, 0).unwrap() == Answer::WentOn {}
+    while phase.turn(GATEWAY, &mut table, 0).unwrap() == Answer::WentOn {}
     assert_eq!(table, cells([5, 0, 0, 0, 0]));
 }
 
@@ -579,10 +590,10 @@ fn a_nearer_label_is_taken() {
 fn a_nearer_empty_cell_is_taken() {
     let (mut phase, mut table) = seeking_back();
     order(&mut phase, 2, 5).unwrap();
-    while phase.turn(&mut table, 2).unwrap() == Answer::WentOn {}
+    while phase.turn(GATEWAY, &mut table, 2).unwrap() == Answer::WentOn {}
     assert_eq!(table, cells([20, 0, 0, 0, 0]));
-    assert_eq!(phase.turn(&mut table, 0), Ok(Answer::WentOn));
-    assert_eq!(phase.turn(&mut table, 0), Ok(Answer::Finished));
+    assert_eq!(phase.turn(GATEWAY, &mut table, 0), Ok(Answer::WentOn));
+    assert_eq!(phase.turn(GATEWAY, &mut table, 0), Ok(Answer::Finished));
     assert_eq!(table, [0; 5]);
 }
 

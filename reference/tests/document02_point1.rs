@@ -4,6 +4,7 @@ use reference::layout::{
     content, is_sound, label_of, layout, least_prices, price_of, Homes, Prices,
 };
 use reference::listing::{check, count, list, taken_word};
+use reference::model::GATEWAY;
 use reference::phase::{Activity, Answer, Order, Phase, LOOK_UP, PUT_IN, TAKE_OUT};
 use reference::sheet::replay_bytes;
 
@@ -27,7 +28,7 @@ fn order(worker: u32, label: u32, price: u32) -> Order {
 
 /// A shift of one worker with that record, whatever it is.
 fn forged(kind: u32, n: usize, activity: Activity) -> Phase {
-    let mut phase = Phase::open(kind.into(), 1, Homes::PLAIN, &vec![0; n], &[]).unwrap();
+    let mut phase = Phase::open(GATEWAY, kind.into(), 1, Homes::PLAIN, &vec![0; n], &[]).unwrap();
     phase.workers[0] = activity;
     phase
 }
@@ -39,7 +40,7 @@ fn turned<const N: usize>(
     mut table: [u64; N],
 ) -> (Answer, Activity, [u64; N]) {
     let mut phase = forged(kind, N, activity);
-    let answer = phase.turn(&mut table, 0).unwrap();
+    let answer = phase.turn(GATEWAY, &mut table, 0).unwrap();
     (answer, phase.workers[0], table)
 }
 
@@ -75,13 +76,16 @@ fn wrong_cells_are_unsound() {
     ] {
         let table = with(wrong);
         assert!(!is_sound(Homes::PLAIN, &table), "{wrong}");
-        assert_eq!(check(Homes::PLAIN, &table), Err(4));
-        assert_eq!(count(Homes::PLAIN, &table), Err(4));
+        assert_eq!(check(GATEWAY, Homes::PLAIN, &table), Err(4));
+        assert_eq!(count(GATEWAY, Homes::PLAIN, &table), Err(4));
         let mut lent = [77; 2];
-        assert_eq!(list(Homes::PLAIN, &table, &mut lent), Err(4));
+        assert_eq!(list(GATEWAY, Homes::PLAIN, &table, &mut lent), Err(4));
         assert_eq!(lent, [77; 2]);
         for kind in 1..=3 {
-            assert_eq!(Phase::open(kind, 1, Homes::PLAIN, &table, &[]), Err(4));
+            assert_eq!(
+                Phase::open(GATEWAY, kind, 1, Homes::PLAIN, &table, &[]),
+                Err(4)
+            );
         }
     }
     // A price without a label is no empty cell.
@@ -120,7 +124,7 @@ fn least() {
 fn lists_take_whole_cells() {
     let table = [content(5, 7), 0, 0, 0, content(4, 9_999_999)];
     let mut lent = [77; 3];
-    assert_eq!(list(Homes::PLAIN, &table, &mut lent), Ok(2));
+    assert_eq!(list(GATEWAY, Homes::PLAIN, &table, &mut lent), Ok(2));
     assert_eq!(lent, [content(5, 7), content(4, 9_999_999), 77]);
     assert_eq!(taken_word(&table, 0), 0b10001);
     // Taken is what holds a label.
@@ -347,9 +351,9 @@ fn spoilt_by_label() {
     for kind in 1..=3 {
         for price in [0, 1, 10_000_000, u32::MAX] {
             let entry = content(1, price);
-            assert!(!forged(kind, 5, ReadingOn { entry, cell: 4 }).is_spoilt());
+            assert!(!forged(kind, 5, ReadingOn { entry, cell: 4 }).is_spoilt(GATEWAY));
             let entry = content(0, price);
-            assert!(forged(kind, 5, ReadingOn { entry, cell: 4 }).is_spoilt());
+            assert!(forged(kind, 5, ReadingOn { entry, cell: 4 }).is_spoilt(GATEWAY));
         }
     }
     for found in [0, 1, content(1, 0), content(1, 10_000_000)] {
@@ -366,9 +370,9 @@ fn spoilt_by_label() {
             cell: 0,
             taken: Some((found, 0)),
         };
-        assert!(!forged(PUT_IN, 5, replacing).is_spoilt());
-        assert!(!forged(TAKE_OUT, 5, replacing).is_spoilt());
-        assert!(!forged(TAKE_OUT, 5, seeking).is_spoilt());
+        assert!(!forged(PUT_IN, 5, replacing).is_spoilt(GATEWAY));
+        assert!(!forged(TAKE_OUT, 5, replacing).is_spoilt(GATEWAY));
+        assert!(!forged(TAKE_OUT, 5, seeking).is_spoilt(GATEWAY));
     }
 }
 
@@ -380,27 +384,27 @@ fn fourteen_in_its_place() {
         for line in list {
             let number = if line.label == 0 { 7 } else { 14 };
             assert_eq!(
-                Phase::open(1, 1, Homes::PLAIN, &[0, 0], &[line]),
+                Phase::open(GATEWAY, 1, 1, Homes::PLAIN, &[0, 0], &[line]),
                 Err(number)
             );
         }
         // At an order call, with a list that no opening takes.
-        let mut phase = Phase::open(1, 2, Homes::PLAIN, &[0, 0], &[]).unwrap();
+        let mut phase = Phase::open(GATEWAY, 1, 2, Homes::PLAIN, &[0, 0], &[]).unwrap();
         let before = phase.clone();
-        assert_eq!(phase.order(&list, 0, 0, 5), Err(7));
-        assert_eq!(phase.order(&list, 1, 0, 5), Err(14));
+        assert_eq!(phase.order(GATEWAY, &list, 0, 0, 5), Err(7));
+        assert_eq!(phase.order(GATEWAY, &list, 1, 0, 5), Err(14));
         assert_eq!(phase, before);
-        assert_eq!(phase.order(&[order(0, 5, 1)], 0, 0, 0), Ok(()));
-        assert_eq!(phase.order(&list, 1, 0, 5), Err(8));
-        assert_eq!(phase.order(&list, 2, 0, 5), Err(14));
+        assert_eq!(phase.order(GATEWAY, &[order(0, 5, 1)], 0, 0, 0), Ok(()));
+        assert_eq!(phase.order(GATEWAY, &list, 1, 0, 5), Err(8));
+        assert_eq!(phase.order(GATEWAY, &list, 2, 0, 5), Err(14));
     }
     // The least and the greatest price.
     for price in [1, 9_999_999] {
         let list = [order(0, 5, price)];
         let mut table = [0, 0];
-        let mut phase = Phase::open(1, 1, Homes::PLAIN, &table, &list).unwrap();
-        assert_eq!(phase.order(&list, 0, 0, 0), Ok(()));
-        while phase.turn(&mut table, 0).unwrap() == Answer::WentOn {}
+        let mut phase = Phase::open(GATEWAY, 1, 1, Homes::PLAIN, &table, &list).unwrap();
+        assert_eq!(phase.order(GATEWAY, &list, 0, 0, 0), Ok(()));
+        while phase.turn(GATEWAY, &mut table, 0).unwrap() == Answer::WentOn {}
         assert_eq!(table, [0, content(5, price)]);
     }
 }
@@ -410,14 +414,14 @@ fn fourteen_in_its_place() {
 fn a_fallen_price_is_carried_on() {
     let mut table = [0, 0, 0, content(8, 9), 0];
     let list = [order(0, 13, 5), order(1, 8, 3)];
-    let mut phase = Phase::open(1, 2, Homes::PLAIN, &table, &list).unwrap();
-    phase.order(&list, 0, 0, 0).unwrap();
-    assert_eq!(phase.turn(&mut table, 0), Ok(Answer::WentOn));
-    phase.order(&list, 1, 0, 0).unwrap();
-    assert_eq!(phase.turn(&mut table, 1), Ok(Answer::WentOn));
-    assert_eq!(phase.turn(&mut table, 1), Ok(Answer::Finished));
+    let mut phase = Phase::open(GATEWAY, 1, 2, Homes::PLAIN, &table, &list).unwrap();
+    phase.order(GATEWAY, &list, 0, 0, 0).unwrap();
+    assert_eq!(phase.turn(GATEWAY, &mut table, 0), Ok(Answer::WentOn));
+    phase.order(GATEWAY, &list, 1, 0, 0).unwrap();
+    assert_eq!(phase.turn(GATEWAY, &mut table, 1), Ok(Answer::WentOn));
+    assert_eq!(phase.turn(GATEWAY, &mut table, 1), Ok(Answer::Finished));
     assert_eq!(table, [0, 0, 0, content(8, 3), 0]);
-    while phase.turn(&mut table, 0).unwrap() == Answer::WentOn {}
+    while phase.turn(GATEWAY, &mut table, 0).unwrap() == Answer::WentOn {}
     assert_eq!(table, [0, 0, 0, content(13, 5), content(8, 3)]);
 }
 

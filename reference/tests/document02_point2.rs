@@ -4,6 +4,7 @@ use std::collections::BTreeSet;
 
 use reference::generate::{orders, spoil, Rng};
 use reference::layout::{content, label_of, layout, Homes, Prices};
+use reference::model::GATEWAY;
 use reference::phase::{Activity, Answer, Order, Phase};
 use reference::sheet::replay_bytes;
 
@@ -17,17 +18,17 @@ fn order(worker: u32, label: u32, price: u32) -> Order {
 
 /// The answer of a put-in opening.
 fn opens(count: u64, table: &[u64], list: &[Order]) -> Result<(), u8> {
-    Phase::open(1, count, Homes::PLAIN, table, list).map(|_| ())
+    Phase::open(GATEWAY, 1, count, Homes::PLAIN, table, list).map(|_| ())
 }
 
 /// Gives every line of the list in turn, runs each to its end and closes.
 fn work(count: u64, table: &mut [u64], list: &[Order]) {
-    let mut phase = Phase::open(1, count, Homes::PLAIN, table, list).unwrap();
+    let mut phase = Phase::open(GATEWAY, 1, count, Homes::PLAIN, table, list).unwrap();
     for (line, order) in (0..).zip(list) {
-        phase.order(list, line, 0, 0).unwrap();
-        while phase.turn(table, order.worker.into()).unwrap() == Answer::WentOn {}
+        phase.order(GATEWAY, list, line, 0, 0).unwrap();
+        while phase.turn(GATEWAY, table, order.worker.into()).unwrap() == Answer::WentOn {}
     }
-    phase.close().unwrap();
+    phase.close(GATEWAY).unwrap();
 }
 
 // ---- opening
@@ -39,13 +40,22 @@ fn openings_refuse_in_order() {
     let unsound = [content(1, 1), content(1, 1)];
     for kind in [0, 1] {
         assert_eq!(
-            Phase::open(kind, 0, Homes::PLAIN, &unsound[..1], &long),
+            Phase::open(GATEWAY, kind, 0, Homes::PLAIN, &unsound[..1], &long),
             Err(1)
         );
-        assert_eq!(Phase::open(kind, 0, Homes::PLAIN, &unsound, &long), Err(2));
+        assert_eq!(
+            Phase::open(GATEWAY, kind, 0, Homes::PLAIN, &unsound, &long),
+            Err(2)
+        );
     }
-    assert_eq!(Phase::open(0, 1, Homes::PLAIN, &unsound, &long), Err(3));
-    assert_eq!(Phase::open(4, 1, Homes::PLAIN, &unsound, &long), Err(3));
+    assert_eq!(
+        Phase::open(GATEWAY, 0, 1, Homes::PLAIN, &unsound, &long),
+        Err(3)
+    );
+    assert_eq!(
+        Phase::open(GATEWAY, 4, 1, Homes::PLAIN, &unsound, &long),
+        Err(3)
+    );
     assert_eq!(opens(1, &unsound, &long), Err(16));
     assert_eq!(opens(1, &unsound, &long[1..]), Err(4));
     // Every bad line comes before 9, though the table is full without it.
@@ -123,7 +133,7 @@ fn random_openings() {
             .collect();
         let full = if together.len() >= n { 9 } else { 0 };
         let expected = faults.chain([full]).find(|&fault| fault != 0).unwrap_or(0);
-        let answer = Phase::open(1, crew as u64, Homes::PLAIN, &table, &list);
+        let answer = Phase::open(GATEWAY, 1, crew as u64, Homes::PLAIN, &table, &list);
         assert_eq!(answer.map_or_else(|number| number, |_| 0), expected);
         answers[expected as usize] += 1;
     }
@@ -194,10 +204,10 @@ fn the_longest_list() {
     let mut list = vec![order(0, 7, 9); 65_536];
     list[65_535].price = 4;
     let mut table = [0, 0];
-    let mut phase = Phase::open(1, 1, Homes::PLAIN, &table, &list).unwrap();
-    assert_eq!(phase.order(&list, 65_536, 0, 0), Err(15));
-    assert_eq!(phase.order(&list, 65_535, 0, 0), Ok(()));
-    while phase.turn(&mut table, 0).unwrap() == Answer::WentOn {}
+    let mut phase = Phase::open(GATEWAY, 1, 1, Homes::PLAIN, &table, &list).unwrap();
+    assert_eq!(phase.order(GATEWAY, &list, 65_536, 0, 0), Err(15));
+    assert_eq!(phase.order(GATEWAY, &list, 65_535, 0, 0), Ok(()));
+    while phase.turn(GATEWAY, &mut table, 0).unwrap() == Answer::WentOn {}
     assert_eq!(table, [0, content(7, 4)]);
     list[65_535].label = 8;
     assert_eq!(opens(1, &[0, 0], &list), Err(9));
@@ -207,8 +217,11 @@ fn the_longest_list() {
     assert_eq!(opens(1, &[0, 0], &list), Err(16));
     assert_eq!(opens(1, &[1, 1], &list), Err(16));
     for kind in [2, 3] {
-        assert!(Phase::open(kind, 1, Homes::PLAIN, &[0, 0], &list).is_ok());
-        assert_eq!(Phase::open(kind, 1, Homes::PLAIN, &[1, 1], &list), Err(4));
+        assert!(Phase::open(GATEWAY, kind, 1, Homes::PLAIN, &[0, 0], &list).is_ok());
+        assert_eq!(
+            Phase::open(GATEWAY, kind, 1, Homes::PLAIN, &[1, 1], &list),
+            Err(4)
+        );
     }
 }
 
@@ -224,21 +237,21 @@ fn other_kinds_read_no_list() {
         vec![order(9, 0, 0); 65_537],
     ];
     for kind in [2, 3] {
-        let plain = Phase::open(kind, 1, Homes::PLAIN, &table, &[]).unwrap();
+        let plain = Phase::open(GATEWAY, kind, 1, Homes::PLAIN, &table, &[]).unwrap();
         let mut ordered = plain.clone();
-        ordered.order(&[], 0, 0, 4).unwrap();
+        ordered.order(GATEWAY, &[], 0, 0, 4).unwrap();
         for list in &lists {
             assert_eq!(
-                Phase::open(kind, 1, Homes::PLAIN, &table, list),
+                Phase::open(GATEWAY, kind, 1, Homes::PLAIN, &table, list),
                 Ok(plain.clone())
             );
             for line in [0, 1, 65_537, u64::MAX] {
                 let mut phase = plain.clone();
-                assert_eq!(phase.order(list, line, 1, 4), Err(6));
-                assert_eq!(phase.order(list, line, 0, 0), Err(7));
-                assert_eq!(phase.order(list, line, 0, 4), Ok(()));
+                assert_eq!(phase.order(GATEWAY, list, line, 1, 4), Err(6));
+                assert_eq!(phase.order(GATEWAY, list, line, 0, 0), Err(7));
+                assert_eq!(phase.order(GATEWAY, list, line, 0, 4), Ok(()));
                 assert_eq!(phase, ordered);
-                assert_eq!(phase.order(list, line, 0, 4), Err(8));
+                assert_eq!(phase.order(GATEWAY, list, line, 0, 4), Err(8));
             }
         }
     }
@@ -257,16 +270,16 @@ fn order_refuses_in_order() {
         order(1, 0, 0),
         order(1, 5, 0),
     ];
-    let mut phase = Phase::open(1, 2, Homes::PLAIN, &[0, 0], &list[..1]).unwrap();
+    let mut phase = Phase::open(GATEWAY, 1, 2, Homes::PLAIN, &[0, 0], &list[..1]).unwrap();
     let unread = [(0, 0), (0, 5), (1, 5), (9, 0), (u64::MAX, 7)];
     let refused = |phase: &Phase, line: u64, number: u8| {
         for (worker, label) in unread {
             let mut same = phase.clone();
-            assert_eq!(same.order(&list, line, worker, label), Err(number));
+            assert_eq!(same.order(GATEWAY, &list, line, worker, label), Err(number));
             assert_eq!(same, *phase);
         }
     };
-    assert_eq!(phase.order(&list, 0, 1, 9), Ok(()));
+    assert_eq!(phase.order(GATEWAY, &list, 0, 1, 9), Ok(()));
     let busy = Activity::ReadingOn {
         entry: content(5, 1),
         cell: 1,
@@ -279,8 +292,8 @@ fn order_refuses_in_order() {
         refused(&phase, line, number);
     }
     let mut table = [0, 0];
-    while phase.turn(&mut table, 0).unwrap() == Answer::WentOn {}
-    phase.close().unwrap();
+    while phase.turn(GATEWAY, &mut table, 0).unwrap() == Answer::WentOn {}
+    phase.close(GATEWAY).unwrap();
     let mut spoilt = phase.clone();
     spoilt.length = 1;
     for line in 0..7 {
@@ -293,20 +306,20 @@ fn order_refuses_in_order() {
 fn a_line_given_twice() {
     let list = [order(0, 8, 6), order(1, 8, 6), order(0, 3, 2)];
     let mut table = [0; 5];
-    let mut phase = Phase::open(1, 2, Homes::PLAIN, &table, &list).unwrap();
+    let mut phase = Phase::open(GATEWAY, 1, 2, Homes::PLAIN, &table, &list).unwrap();
     for _ in 0..3 {
-        assert_eq!(phase.order(&list, 0, 0, 0), Ok(()));
-        assert_eq!(phase.order(&list, 0, 0, 0), Err(8));
-        assert_eq!(phase.order(&list, 2, 0, 0), Err(8));
-        assert_eq!(phase.order(&list, 1, 0, 0), Ok(()));
+        assert_eq!(phase.order(GATEWAY, &list, 0, 0, 0), Ok(()));
+        assert_eq!(phase.order(GATEWAY, &list, 0, 0, 0), Err(8));
+        assert_eq!(phase.order(GATEWAY, &list, 2, 0, 0), Err(8));
+        assert_eq!(phase.order(GATEWAY, &list, 1, 0, 0), Ok(()));
         while !phase.all_idle() {
-            phase.turn(&mut table, 1).unwrap();
-            phase.turn(&mut table, 0).unwrap();
+            phase.turn(GATEWAY, &mut table, 1).unwrap();
+            phase.turn(GATEWAY, &mut table, 0).unwrap();
         }
         assert_eq!(table, [0, 0, 0, content(8, 6), 0]);
     }
     // A line may also never be given.
-    phase.close().unwrap();
+    phase.close(GATEWAY).unwrap();
     assert_eq!(table, [0, 0, 0, content(8, 6), 0]);
 }
 
@@ -315,17 +328,17 @@ fn a_line_given_twice() {
 #[test]
 fn an_altered_list() {
     let opened = [order(0, 8, 6)];
-    let phase = Phase::open(1, 2, Homes::PLAIN, &[0; 5], &opened).unwrap();
+    let phase = Phase::open(GATEWAY, 1, 2, Homes::PLAIN, &[0; 5], &opened).unwrap();
     let mut other = phase.clone();
-    assert_eq!(other.order(&[], 0, 0, 8), Err(15));
-    assert_eq!(other.order(&[order(2, 8, 6)], 0, 0, 8), Err(6));
-    assert_eq!(other.order(&[order(0, 0, 6)], 0, 0, 8), Err(7));
-    assert_eq!(other.order(&[order(0, 8, 0)], 0, 0, 8), Err(14));
+    assert_eq!(other.order(GATEWAY, &[], 0, 0, 8), Err(15));
+    assert_eq!(other.order(GATEWAY, &[order(2, 8, 6)], 0, 0, 8), Err(6));
+    assert_eq!(other.order(GATEWAY, &[order(0, 0, 6)], 0, 0, 8), Err(7));
+    assert_eq!(other.order(GATEWAY, &[order(0, 8, 0)], 0, 0, 8), Err(14));
     assert_eq!(other, phase);
     // Longer than any opening takes.
     let mut long = vec![order(9, 0, 0); 70_000];
     long[69_999] = order(1, 4, 7);
-    assert_eq!(other.order(&long, 69_999, 0, 8), Ok(()));
+    assert_eq!(other.order(GATEWAY, &long, 69_999, 0, 8), Ok(()));
     let altered = Activity::ReadingOn {
         entry: content(4, 7),
         cell: 4,
@@ -337,14 +350,17 @@ fn an_altered_list() {
 #[test]
 fn no_count_of_orders() {
     let list = [order(0, 8, 6), order(0, 3, 2)];
-    let phase = Phase::open(1, 1, Homes::PLAIN, &[0; 5], &list);
-    assert_eq!(phase, Phase::open(1, 1, Homes::PLAIN, &[0; 5], &[]));
+    let phase = Phase::open(GATEWAY, 1, 1, Homes::PLAIN, &[0; 5], &list);
+    assert_eq!(
+        phase,
+        Phase::open(GATEWAY, 1, 1, Homes::PLAIN, &[0; 5], &[])
+    );
     let mut table = [0, 0];
-    let mut phase = Phase::open(1, 1, Homes::PLAIN, &table, &list[..1]).unwrap();
+    let mut phase = Phase::open(GATEWAY, 1, 1, Homes::PLAIN, &table, &list[..1]).unwrap();
     for _ in 0..1000 {
-        phase.order(&list, 0, 0, 0).unwrap();
-        while phase.turn(&mut table, 0).unwrap() == Answer::WentOn {}
-        assert!(!phase.is_spoilt());
+        phase.order(GATEWAY, &list, 0, 0, 0).unwrap();
+        while phase.turn(GATEWAY, &mut table, 0).unwrap() == Answer::WentOn {}
+        assert!(!phase.is_spoilt(GATEWAY));
     }
     assert_eq!(table.map(label_of), [8, 0]);
 }

@@ -5,6 +5,7 @@ use std::collections::BTreeSet;
 use reference::generate::{all_lists, fill, overwrite, returned, table, torn, Rng, WRONG_PRICES};
 use reference::layout::{content, layout, soundness, Homes, Prices};
 use reference::listing::{check, count, list, list_front};
+use reference::model::GATEWAY;
 use reference::phase::{Answer, Order, Phase};
 use reference::refusal;
 use reference::sheet::replay_bytes;
@@ -38,25 +39,28 @@ fn wrong_contents() -> Vec<u64> {
 /// What every call that needs a sound table says of this one: its number, or 0.
 /// A refusal keeps all lent places.
 fn said(table: &[u64]) -> u8 {
-    let answer = check(Homes::PLAIN, table);
+    let answer = check(GATEWAY, Homes::PLAIN, table);
     let number = answer.map_or_else(|number| number, |()| 0);
-    assert_eq!(count(Homes::PLAIN, table).map(|_| ()), answer);
+    assert_eq!(count(GATEWAY, Homes::PLAIN, table).map(|_| ()), answer);
     let lists = [vec![], vec![order(9, 0, 0)], vec![order(0, 1, 1); 3]];
     if number == 0 {
         for kind in 1..=3 {
-            assert!(Phase::open(kind, 1, Homes::PLAIN, table, &[]).is_ok());
+            assert!(Phase::open(GATEWAY, kind, 1, Homes::PLAIN, table, &[]).is_ok());
         }
         return 0;
     }
     for places in [0, 1, table.len(), table.len() + 3] {
         let mut lent = vec![77; places];
-        assert_eq!(list(Homes::PLAIN, table, &mut lent), Err(number));
-        assert!(list_front(Homes::PLAIN, table, &mut lent).is_empty());
+        assert_eq!(list(GATEWAY, Homes::PLAIN, table, &mut lent), Err(number));
+        assert!(list_front(GATEWAY, Homes::PLAIN, table, &mut lent).is_empty());
         assert_eq!(lent, vec![77; places]);
     }
     for kind in 1..=3 {
         for list in &lists {
-            assert_eq!(Phase::open(kind, 1, Homes::PLAIN, table, list), Err(number));
+            assert_eq!(
+                Phase::open(GATEWAY, kind, 1, Homes::PLAIN, table, list),
+                Err(number)
+            );
         }
     }
     number
@@ -298,16 +302,28 @@ fn openings_refuse_in_order() {
         (cells([3, 6, 0]), 18),
     ] {
         for kind in 0..=4 {
-            assert_eq!(Phase::open(kind, 0, Homes::PLAIN, &table, &long), Err(2));
-            assert_eq!(Phase::open(kind, 17, Homes::PLAIN, &table, &long), Err(2));
+            assert_eq!(
+                Phase::open(GATEWAY, kind, 0, Homes::PLAIN, &table, &long),
+                Err(2)
+            );
+            assert_eq!(
+                Phase::open(GATEWAY, kind, 17, Homes::PLAIN, &table, &long),
+                Err(2)
+            );
         }
         for kind in [0, 4] {
-            assert_eq!(Phase::open(kind, 1, Homes::PLAIN, &table, &long), Err(3));
+            assert_eq!(
+                Phase::open(GATEWAY, kind, 1, Homes::PLAIN, &table, &long),
+                Err(3)
+            );
         }
-        assert_eq!(Phase::open(1, 1, Homes::PLAIN, &table, &long), Err(16));
+        assert_eq!(
+            Phase::open(GATEWAY, 1, 1, Homes::PLAIN, &table, &long),
+            Err(16)
+        );
         for kind in [2, 3] {
             assert_eq!(
-                Phase::open(kind, 1, Homes::PLAIN, &table, &long),
+                Phase::open(GATEWAY, kind, 1, Homes::PLAIN, &table, &long),
                 Err(number)
             );
         }
@@ -319,11 +335,14 @@ fn openings_refuse_in_order() {
             vec![order(9, 0, 0); 65_536],
             (1..9).map(|label| order(0, label, 1)).collect(),
         ];
-        let alone = |list| Phase::open(1, 1, Homes::PLAIN, &[0; 3], list).map(|_| ());
+        let alone = |list| Phase::open(GATEWAY, 1, 1, Homes::PLAIN, &[0; 3], list).map(|_| ());
         let numbers = [7, 14, 6, 7, 9];
         for (list, behind) in lists.iter().zip(numbers) {
             assert_eq!(alone(list), Err(behind));
-            assert_eq!(Phase::open(1, 1, Homes::PLAIN, &table, list), Err(number));
+            assert_eq!(
+                Phase::open(GATEWAY, 1, 1, Homes::PLAIN, &table, list),
+                Err(number)
+            );
         }
         assert_eq!(said(&table), number);
     }
@@ -344,9 +363,18 @@ fn check_count_and_list_refuse_in_order() {
             assert_eq!(said(&table), expected);
         }
     }
-    assert_eq!(list(Homes::PLAIN, &cells([0, 1, 0]), &mut []), Err(12));
-    assert_eq!(list(Homes::PLAIN, &cells([1, 0, 0]), &mut []), Err(17));
-    assert_eq!(list(Homes::PLAIN, &cells([3, 6, 0]), &mut [0]), Err(18));
+    assert_eq!(
+        list(GATEWAY, Homes::PLAIN, &cells([0, 1, 0]), &mut []),
+        Err(12)
+    );
+    assert_eq!(
+        list(GATEWAY, Homes::PLAIN, &cells([1, 0, 0]), &mut []),
+        Err(17)
+    );
+    assert_eq!(
+        list(GATEWAY, Homes::PLAIN, &cells([3, 6, 0]), &mut [0]),
+        Err(18)
+    );
 }
 
 /// A take-out in the middle of its work leaves a copy of a label on that label's
@@ -365,27 +393,27 @@ fn on_the_sheet() {
 #[test]
 fn a_gap_in_a_take_out_shift() {
     let mut table = cells([0, 5, 2, 1]);
-    let mut phase = Phase::open(2, 2, Homes::PLAIN, &table, &[]).unwrap();
+    let mut phase = Phase::open(GATEWAY, 2, 2, Homes::PLAIN, &table, &[]).unwrap();
     let turns = |phase: &mut Phase, table: &mut [u64], worker: u64, turns: usize| {
         for _ in 0..turns {
-            phase.turn(table, worker).unwrap();
+            phase.turn(GATEWAY, table, worker).unwrap();
             assert_eq!(said(table), 0);
         }
     };
-    phase.order(&[], 0, 0, 1).unwrap();
+    phase.order(GATEWAY, &[], 0, 0, 1).unwrap();
     turns(&mut phase, &mut table, 0, 5);
-    phase.order(&[], 0, 1, 2).unwrap();
+    phase.order(GATEWAY, &[], 0, 1, 2).unwrap();
     turns(&mut phase, &mut table, 1, 3);
     turns(&mut phase, &mut table, 0, 1);
-    phase.order(&[], 0, 0, 5).unwrap();
+    phase.order(GATEWAY, &[], 0, 0, 5).unwrap();
     turns(&mut phase, &mut table, 0, 6);
     assert_eq!(table, cells([0, 0, 2, 0]));
-    phase.turn(&mut table, 1).unwrap();
+    phase.turn(GATEWAY, &mut table, 1).unwrap();
     assert_eq!(table, cells([0, 0, 1, 0]));
     assert_eq!(said(&table), 17);
-    while phase.turn(&mut table, 1).unwrap() == Answer::WentOn {}
+    while phase.turn(GATEWAY, &mut table, 1).unwrap() == Answer::WentOn {}
     assert_eq!(table, [0; 4]);
-    phase.close().unwrap();
+    phase.close(GATEWAY).unwrap();
 }
 
 // ---- all tables

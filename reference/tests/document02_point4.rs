@@ -5,6 +5,7 @@ use reference::generate::till::{
 };
 use reference::generate::Rng;
 use reference::layout::{content, layout, Homes, Prices};
+use reference::model::GATEWAY;
 use reference::phase::{Answer, Order, Phase};
 use reference::refusal;
 use reference::till::read;
@@ -20,7 +21,7 @@ const OLD: Order = Order {
 /// nothing, and places behind the records keep their contents.
 fn read_into(text: &[u8], count: u64, places: usize) -> Result<Vec<Order>, u8> {
     let mut orders = vec![OLD; places];
-    let answer = read(text, count, &mut orders);
+    let answer = read(GATEWAY, text, count, &mut orders);
     let written = answer.unwrap_or(0);
     assert!(orders[written..].iter().all(|&place| place == OLD));
     answer.map(|count| orders[..count].to_vec())
@@ -325,7 +326,7 @@ fn a_list_too_short() {
 #[test]
 fn places_behind() {
     let mut orders = [OLD; 5];
-    assert_eq!(read(b"3,1\r\n8,2\r\n", 16, &mut orders), Ok(2));
+    assert_eq!(read(GATEWAY, b"3,1\r\n8,2\r\n", 16, &mut orders), Ok(2));
     let order = |worker, label, price| Order {
         worker,
         label,
@@ -334,16 +335,16 @@ fn places_behind() {
     let read_first = [order(0, 3, 1), order(1, 8, 2), OLD, OLD, OLD];
     assert_eq!(orders, read_first);
     for (text, number) in [("9,9\r\n\r\n", 19), ("9,9\r\n9,x", 20)] {
-        assert_eq!(read(text.as_bytes(), 16, &mut orders), Err(number));
+        assert_eq!(read(GATEWAY, text.as_bytes(), 16, &mut orders), Err(number));
         assert_eq!(orders, read_first);
     }
     assert_eq!(
-        read("9,9\r\n".repeat(6).as_bytes(), 1, &mut orders),
+        read(GATEWAY, "9,9\r\n".repeat(6).as_bytes(), 1, &mut orders),
         Err(12)
     );
-    assert_eq!(read(b"9,9", 0, &mut orders), Err(2));
+    assert_eq!(read(GATEWAY, b"9,9", 0, &mut orders), Err(2));
     assert_eq!(orders, read_first);
-    assert_eq!(read(b"9,9", 16, &mut orders), Ok(1));
+    assert_eq!(read(GATEWAY, b"9,9", 16, &mut orders), Ok(1));
     assert_eq!(orders, [order(0, 9, 9), order(1, 8, 2), OLD, OLD, OLD]);
 }
 
@@ -363,21 +364,21 @@ fn values_are_checked_at_opening() {
     ] {
         let orders = read_into(text.as_bytes(), 2, 9).unwrap();
         assert_eq!(
-            Phase::open(1, 2, Homes::PLAIN, &[0; 3], &orders),
+            Phase::open(GATEWAY, 1, 2, Homes::PLAIN, &[0; 3], &orders),
             Err(number),
             "{text:?}"
         );
     }
     for count in [65_536, 65_537, 100_000] {
         let orders = read_into("7,5\r\n".repeat(count).as_bytes(), 16, count).unwrap();
-        let answer = Phase::open(1, 16, Homes::PLAIN, &[0; 3], &orders).map(|_| ());
+        let answer = Phase::open(GATEWAY, 1, 16, Homes::PLAIN, &[0; 3], &orders).map(|_| ());
         assert_eq!(answer, if count == 65_536 { Ok(()) } else { Err(16) });
     }
     // As many workers as the list was dealt to, or more; not fewer.
     let orders = read_into(b"1,1\r\n2,2\r\n3,3", 3, 3).unwrap();
     for (count, answer) in [(2, Err(6)), (3, Ok(())), (4, Ok(()))] {
         assert_eq!(
-            Phase::open(1, count, Homes::PLAIN, &[0; 9], &orders).map(|_| ()),
+            Phase::open(GATEWAY, 1, count, Homes::PLAIN, &[0; 9], &orders).map(|_| ()),
             answer
         );
     }
@@ -390,12 +391,16 @@ fn a_shift_of_a_till() {
     for count in 1..=16 {
         let orders = read_into(text.as_bytes(), count, 5).unwrap();
         let mut table = vec![0; 5];
-        let mut phase = Phase::open(1, count, Homes::PLAIN, &table, &orders).unwrap();
+        let mut phase = Phase::open(GATEWAY, 1, count, Homes::PLAIN, &table, &orders).unwrap();
         for (line, order) in (0..).zip(&orders) {
-            phase.order(&orders, line, 0, 0).unwrap();
-            while phase.turn(&mut table, order.worker.into()).unwrap() == Answer::WentOn {}
+            phase.order(GATEWAY, &orders, line, 0, 0).unwrap();
+            while phase
+                .turn(GATEWAY, &mut table, order.worker.into())
+                .unwrap()
+                == Answer::WentOn
+            {}
         }
-        phase.close().unwrap();
+        phase.close(GATEWAY).unwrap();
         let prices = Prices::from([(3, 1), (4, 1), (8, 1), (13, 1)]);
         assert_eq!(table, layout(Homes::PLAIN, 5, &prices));
         assert_eq!(

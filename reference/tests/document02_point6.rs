@@ -13,6 +13,7 @@ use reference::layout::{
     Prices,
 };
 use reference::listing::{check, count, list, list_front};
+use reference::model::GATEWAY;
 use reference::phase::{Activity, Answer, Order, Phase, LOOK_UP, PUT_IN, TAKE_OUT};
 use reference::refusal;
 use reference::sheet::replay_bytes;
@@ -54,7 +55,7 @@ fn order(worker: u32, label: u32, price: u32) -> Order {
 
 /// Opens a shift without a list.
 fn open(kind: u64, count: u64, homes: Homes, table: &[u64]) -> Result<Phase, u8> {
-    Phase::open(kind, count, homes, table, &[])
+    Phase::open(GATEWAY, kind, count, homes, table, &[])
 }
 
 /// Gives each order to its worker, deals turns at random until all are idle, and
@@ -67,14 +68,20 @@ fn work(rng: &mut Rng, phase: &mut Phase, table: &mut [u64], list: &[Order]) {
         if given < list.len() && rng.once_in(2) {
             let order = list[given];
             // A line whose worker is busy waits.
-            let answer = phase.order(list, given as u64, order.worker.into(), order.label);
+            let answer = phase.order(
+                GATEWAY,
+                list,
+                given as u64,
+                order.worker.into(),
+                order.label,
+            );
             given += usize::from(answer.is_ok());
         } else {
             let worker = rng.below(phase.count) as u64;
-            phase.turn(table, worker).unwrap();
+            phase.turn(GATEWAY, table, worker).unwrap();
         }
     }
-    phase.close().unwrap();
+    phase.close(GATEWAY).unwrap();
 }
 
 /// Spaces stand for tabs.
@@ -142,9 +149,9 @@ fn by_sets(homes: Homes, table: &[u64]) -> u8 {
 /// What every call that needs a sound table says of this one: its number, or 0.
 /// A refusal keeps all lent places.
 fn said(homes: Homes, table: &[u64]) -> u8 {
-    let answer = check(homes, table);
+    let answer = check(GATEWAY, homes, table);
     let number = answer.map_or_else(|number| number, |()| 0);
-    assert_eq!(count(homes, table).map(|_| ()), answer);
+    assert_eq!(count(GATEWAY, homes, table).map(|_| ()), answer);
     for places in [0, table.len(), table.len() + 3] {
         let mut lent = vec![77; places];
         let labels = table.iter().filter(|&&cell| cell != 0).count();
@@ -153,9 +160,9 @@ fn said(homes: Homes, table: &[u64]) -> u8 {
             0 => Ok(labels),
             _ => Err(number),
         };
-        assert_eq!(list(homes, table, &mut lent), expected);
+        assert_eq!(list(GATEWAY, homes, table, &mut lent), expected);
         if expected.is_err() {
-            assert!(list_front(homes, table, &mut lent).is_empty());
+            assert!(list_front(GATEWAY, homes, table, &mut lent).is_empty());
             assert_eq!(lent, vec![77; places]);
         }
     }
@@ -362,8 +369,8 @@ fn homes_everywhere() {
             assert_eq!(layout(homes, n, &set(&[label])), alone);
             for kind in 1..=3 {
                 let list = [order(0, label, 7)];
-                let mut phase = Phase::open(kind, 1, homes, &vec![0; n], &list).unwrap();
-                phase.order(&list, 0, 0, label).unwrap();
+                let mut phase = Phase::open(GATEWAY, kind, 1, homes, &vec![0; n], &list).unwrap();
+                phase.order(GATEWAY, &list, 0, 0, label).unwrap();
                 let price = if kind == 1 { 7 } else { 0 };
                 let entry = content(label, price);
                 assert_eq!(phase.workers[0], ReadingOn { entry, cell: home });
@@ -380,7 +387,7 @@ fn homes_everywhere() {
                 let entry = content(label, 0);
                 let mut phase = open(2, 1, homes, &vec![0; n]).unwrap();
                 phase.workers[0] = WalkingBack { entry, cell: at };
-                let answer = phase.turn(&mut vec![0; n], 0);
+                let answer = phase.turn(GATEWAY, &mut vec![0; n], 0);
                 let expected = match at == home {
                     true => (Answer::Finished, Idle),
                     false => {
@@ -495,14 +502,14 @@ fn the_record_keeps_them() {
         for kind in 1..=3 {
             let list = [order(0, 8, 2), order(1, 13, 1)];
             let mut table = layout(homes, 5, &set(&[3, 8]));
-            let mut phase = Phase::open(kind, 2, homes, &table, &list).unwrap();
+            let mut phase = Phase::open(GATEWAY, kind, 2, homes, &table, &list).unwrap();
             assert_eq!(phase.homes, homes);
             work(rng, &mut phase, &mut table, &list);
             // Closed, and through refused calls.
             assert_eq!((phase.homes, phase.open), (homes, false));
-            assert_eq!(phase.order(&list, 0, 0, 8), Err(11));
-            assert_eq!(phase.turn(&mut table, 0), Err(11));
-            assert_eq!(phase.close(), Err(11));
+            assert_eq!(phase.order(GATEWAY, &list, 0, 0, 8), Err(11));
+            assert_eq!(phase.turn(GATEWAY, &mut table, 0), Err(11));
+            assert_eq!(phase.close(GATEWAY), Err(11));
             assert_eq!(phase.homes, homes);
         }
     }
@@ -513,16 +520,16 @@ fn through_every_call() {
     let homes = with(2654435769, 7);
     let list = [order(0, 8, 2), order(1, 13, 1)];
     let mut table = [0; 5];
-    let mut phase = Phase::open(1, 2, homes, &table, &list).unwrap();
+    let mut phase = Phase::open(GATEWAY, 1, 2, homes, &table, &list).unwrap();
     for line in [0, 1, 0, 5] {
-        let _ = phase.order(&list, line, 0, 0);
+        let _ = phase.order(GATEWAY, &list, line, 0, 0);
         assert_eq!(phase.homes, homes);
         for worker in [0, 1, 2, 0] {
-            let _ = phase.turn(&mut table, worker);
+            let _ = phase.turn(GATEWAY, &mut table, worker);
             assert_eq!(phase.homes, homes);
         }
-        let _ = phase.turn(&mut [0; 4], 0);
-        let _ = phase.close();
+        let _ = phase.turn(GATEWAY, &mut [0; 4], 0);
+        let _ = phase.close(GATEWAY);
         assert_eq!(phase.homes, homes);
     }
 }
@@ -532,7 +539,7 @@ fn after_a_refused_opening() {
     let shut = Phase::shut();
     assert_eq!(shut.homes, with(1, 0));
     assert_eq!((shut.kind, shut.length, shut.count), (3, 2, 1));
-    assert!(!shut.open && shut.all_idle() && !shut.is_spoilt());
+    assert!(!shut.open && shut.all_idle() && !shut.is_spoilt(GATEWAY));
 }
 
 /// A record isn't spoilt by its a and b, even or odd, nor mended by them.
@@ -543,26 +550,26 @@ fn thirteen_does_not_test_them() {
         for kind in 1..=3 {
             let mut phase = open(kind, 2, Homes::PLAIN, &[0; 5]).unwrap();
             phase.homes = homes;
-            assert!(!phase.is_spoilt());
-            assert_eq!(phase.turn(&mut [0; 5], 0), Ok(Answer::Idle));
+            assert!(!phase.is_spoilt(GATEWAY));
+            assert_eq!(phase.turn(GATEWAY, &mut [0; 5], 0), Ok(Answer::Idle));
             let list = [order(1, 8, 2)];
-            assert_eq!(phase.order(&list, 0, 1, 8), Ok(()));
-            assert!(!phase.is_spoilt());
-            assert_eq!(phase.close(), Err(10));
-            while phase.turn(&mut [0; 5], 1).unwrap() == Answer::WentOn {}
-            assert_eq!(phase.close(), Ok(()));
-            assert_eq!(phase.close(), Err(11));
+            assert_eq!(phase.order(GATEWAY, &list, 0, 1, 8), Ok(()));
+            assert!(!phase.is_spoilt(GATEWAY));
+            assert_eq!(phase.close(GATEWAY), Err(10));
+            while phase.turn(GATEWAY, &mut [0; 5], 1).unwrap() == Answer::WentOn {}
+            assert_eq!(phase.close(GATEWAY), Ok(()));
+            assert_eq!(phase.close(GATEWAY), Err(11));
             assert_eq!(phase.homes, homes);
             phase.length = 1;
-            assert!(phase.is_spoilt());
-            assert_eq!(phase.close(), Err(13));
+            assert!(phase.is_spoilt(GATEWAY));
+            assert_eq!(phase.close(GATEWAY), Err(13));
             assert_eq!(phase.homes, homes);
         }
         let mut shut = Phase::shut();
         shut.homes = homes;
-        assert_eq!(shut.order(&[], 0, 0, 8), Err(11));
-        assert_eq!(shut.turn(&mut [0; 2], 0), Err(11));
-        assert_eq!(shut.close(), Err(11));
+        assert_eq!(shut.order(GATEWAY, &[], 0, 0, 8), Err(11));
+        assert_eq!(shut.turn(GATEWAY, &mut [0; 2], 0), Err(11));
+        assert_eq!(shut.close(GATEWAY), Err(11));
     }
 }
 
@@ -588,12 +595,12 @@ fn forged_with_an_even_a() {
     let rng = &mut Rng::new(4);
     for _ in 0..200 {
         let mut table = [0; 5];
-        let mut phase = Phase::open(1, 2, Homes::PLAIN, &table, &list).unwrap();
+        let mut phase = Phase::open(GATEWAY, 1, 2, Homes::PLAIN, &table, &list).unwrap();
         phase.homes = homes;
-        phase.order(&list, 2, 0, 0).unwrap();
+        phase.order(GATEWAY, &list, 2, 0, 0).unwrap();
         let entry = content(13, 1);
         assert_eq!(phase.workers[0], ReadingOn { entry, cell: 2 });
-        while phase.turn(&mut table, 0).unwrap() == Answer::WentOn {}
+        while phase.turn(GATEWAY, &mut table, 0).unwrap() == Answer::WentOn {}
         work(rng, &mut phase, &mut table, &list);
         assert_eq!(table, cells([3, 0, 13, 8, 4]));
         assert_eq!(table[..], layout(homes, 5, &set(&[3, 4, 8, 13])));
@@ -613,10 +620,10 @@ fn forged_with_an_even_a() {
     let mut phase = open(2, 1, Homes::PLAIN, &[0; 5]).unwrap();
     phase.homes = with(0, 4294967295);
     for label in [1, 13, 4294967295] {
-        phase.order(&[], 0, 0, label).unwrap();
+        phase.order(GATEWAY, &[], 0, 0, label).unwrap();
         let entry = content(label, 0);
         assert_eq!(phase.workers[0], ReadingOn { entry, cell: 0 });
-        while phase.turn(&mut [0; 5], 0).unwrap() == Answer::WentOn {}
+        while phase.turn(GATEWAY, &mut [0; 5], 0).unwrap() == Answer::WentOn {}
     }
 }
 
@@ -774,12 +781,12 @@ fn at_rest() {
         assert_eq!(said(homes, &table), number, "{homes:?}");
     }
     let mut lent = [77; 5];
-    assert_eq!(list(with(1, 5), &table, &mut lent), Ok(4));
+    assert_eq!(list(GATEWAY, with(1, 5), &table, &mut lent), Ok(4));
     assert_eq!(lent[..4], cells([4, 3, 13, 8]));
     assert_eq!(lent[4], 77);
     let mut lent = [77; 5];
     assert_eq!(
-        list_front(with(1, 5), &table, &mut lent),
+        list_front(GATEWAY, with(1, 5), &table, &mut lent),
         cells([4, 3, 13, 8])
     );
 }
@@ -946,7 +953,7 @@ fn one_set_in_other_tables() {
         ];
         for _ in 0..50 {
             let mut table = [0; 5];
-            let mut phase = Phase::open(1, 2, homes, &table, &list).unwrap();
+            let mut phase = Phase::open(GATEWAY, 1, 2, homes, &table, &list).unwrap();
             work(rng, &mut phase, &mut table, &list);
             assert_eq!(table, cells(labels));
         }
@@ -975,7 +982,7 @@ fn closed_alike_or_not() {
                 .collect();
             rng.shuffle(&mut list);
             let mut table = vec![0; n];
-            let mut phase = Phase::open(1, count as u64, homes, &table, &list).unwrap();
+            let mut phase = Phase::open(GATEWAY, 1, count as u64, homes, &table, &list).unwrap();
             work(rng, &mut phase, &mut table, &list);
             table
         };
@@ -1005,7 +1012,7 @@ fn turned(
     phase.homes = homes;
     phase.workers[0] = activity;
     let mut table = table;
-    let answer = phase.turn(&mut table, 0).unwrap();
+    let answer = phase.turn(GATEWAY, &mut table, 0).unwrap();
     (answer, phase.workers[0], table)
 }
 
@@ -1142,10 +1149,10 @@ fn the_place_of_21_at_opening() {
                     for list in lists.map(|list| list.0).into_iter().chain([&long[..]]) {
                         for short in [0, 1] {
                             let table = &table[..short];
-                            assert_eq!(Phase::open(kind, 0, homes, table, list), Err(1));
-                            assert_eq!(Phase::open(kind, 1, homes, table, list), Err(1));
+                            assert_eq!(Phase::open(GATEWAY, kind, 0, homes, table, list), Err(1));
+                            assert_eq!(Phase::open(GATEWAY, kind, 1, homes, table, list), Err(1));
                         }
-                        let answer = |count| Phase::open(kind, count, homes, table, list);
+                        let answer = |count| Phase::open(GATEWAY, kind, count, homes, table, list);
                         assert_eq!(answer(0), Err(2));
                         assert_eq!(answer(17), Err(2));
                         if kind == 0 || kind == 4 {
@@ -1156,27 +1163,33 @@ fn the_place_of_21_at_opening() {
             }
             for kind in 1..=3 {
                 for list in lists.map(|list| list.0).into_iter().chain([&long[..]]) {
-                    assert_eq!(Phase::open(kind, 1, even, table, list), Err(21));
-                    assert_eq!(Phase::open(kind, 16, even, table, list), Err(21));
+                    assert_eq!(Phase::open(GATEWAY, kind, 1, even, table, list), Err(21));
+                    assert_eq!(Phase::open(GATEWAY, kind, 16, even, table, list), Err(21));
                 }
                 for (list, behind) in lists {
                     let expected = match (number, kind) {
                         (0, 1) => behind,
                         _ => number,
                     };
-                    let answer = Phase::open(kind, 1, odd, table, list);
+                    let answer = Phase::open(GATEWAY, kind, 1, odd, table, list);
                     assert_eq!(answer.map_or_else(|number| number, |_| 0), expected);
                 }
                 let expected = if kind == 1 { 16 } else { number };
-                let answer = Phase::open(kind, 1, odd, table, &long);
+                let answer = Phase::open(GATEWAY, kind, 1, odd, table, &long);
                 assert_eq!(answer.map_or_else(|number| number, |_| 0), expected);
             }
         }
     }
     // Too long a table: 1 also for an even a.
     for homes in pairs(&EVEN) {
-        assert_eq!(Phase::open(1, 1, homes, &vec![0; 8193], &long), Err(1));
-        assert_eq!(Phase::open(1, 1, homes, &vec![0; 8192], &long), Err(21));
+        assert_eq!(
+            Phase::open(GATEWAY, 1, 1, homes, &vec![0; 8193], &long),
+            Err(1)
+        );
+        assert_eq!(
+            Phase::open(GATEWAY, 1, 1, homes, &vec![0; 8192], &long),
+            Err(21)
+        );
     }
 }
 
@@ -1188,18 +1201,18 @@ fn even_by_the_last_bit() {
         for b in ADDED {
             let a = 1 << bit;
             let expected = if bit == 0 { Ok(()) } else { Err(21) };
-            assert_eq!(check(with(a, b), &[0; 5]), expected);
-            assert_eq!(check(with(a | 1, b), &[0; 5]), Ok(()));
+            assert_eq!(check(GATEWAY, with(a, b), &[0; 5]), expected);
+            assert_eq!(check(GATEWAY, with(a | 1, b), &[0; 5]), Ok(()));
             assert_eq!(
-                check(with(!a, b), &[0; 5]),
+                check(GATEWAY, with(!a, b), &[0; 5]),
                 if bit == 0 { Err(21) } else { Ok(()) }
             );
         }
     }
     for _ in 0..10_000 {
         let (odd, even) = (homes(rng), even_homes(rng));
-        assert_eq!(check(odd, &[0; 5]), Ok(()));
-        assert_eq!(check(even, &[0; 5]), Err(21));
+        assert_eq!(check(GATEWAY, odd, &[0; 5]), Ok(()));
+        assert_eq!(check(GATEWAY, even, &[0; 5]), Err(21));
     }
 }
 
@@ -1220,7 +1233,7 @@ fn the_place_of_21_at_rest() {
                 assert_eq!(said(odd, &table), number, "{odd:?} {n}");
                 assert_eq!(said(even, &table), 21);
                 // The list too short comes last.
-                let answer = list(odd, &table, &mut []);
+                let answer = list(GATEWAY, odd, &table, &mut []);
                 let labels = table.iter().filter(|&&cell| cell != 0).count();
                 let expected = match (number, labels) {
                     (0, 0) => Ok(0),
@@ -1228,7 +1241,7 @@ fn the_place_of_21_at_rest() {
                     _ => Err(number),
                 };
                 assert_eq!(answer, expected);
-                assert_eq!(list(even, &table, &mut []), Err(21));
+                assert_eq!(list(GATEWAY, even, &table, &mut []), Err(21));
             }
         }
         for n in [0, 1, 8193, 9000] {
@@ -1249,7 +1262,7 @@ fn opened_under_others() {
     let rng = &mut Rng::new(7);
     let list = [order(0, 8, 1)];
     let mut table = [0; 5];
-    let mut phase = Phase::open(1, 1, with(1, 0), &table, &list).unwrap();
+    let mut phase = Phase::open(GATEWAY, 1, 1, with(1, 0), &table, &list).unwrap();
     work(rng, &mut phase, &mut table, &list);
     assert_eq!(table, cells([0, 0, 0, 8, 0]));
     // By 1 and 1 its home is the empty cell 4.
@@ -1263,7 +1276,7 @@ fn opened_under_others() {
     // 2 and 3 in three cells, left by 1 and 0: 3 in cell 0, 2 in cell 2.
     let list = [order(0, 2, 1), order(0, 3, 1)];
     let mut table = [0; 3];
-    let mut phase = Phase::open(1, 1, with(1, 0), &table, &list).unwrap();
+    let mut phase = Phase::open(GATEWAY, 1, 1, with(1, 0), &table, &list).unwrap();
     work(rng, &mut phase, &mut table, &list);
     assert_eq!(table, cells([3, 0, 2]));
     // By 1 and 2 the home of 3 is cell 2, where the smaller 2 stands.
@@ -1291,7 +1304,9 @@ fn closed_under_one_pair_and_opened_under_another() {
             list.truncate(rng.within(0, n));
         }
         let mut closed = opening.clone();
-        if let Ok(mut phase) = Phase::open(kind.into(), count as u64, first, &opening, &list) {
+        if let Ok(mut phase) =
+            Phase::open(GATEWAY, kind.into(), count as u64, first, &opening, &list)
+        {
             work(rng, &mut phase, &mut closed, &list);
         }
         assert_eq!(by_sets(first, &closed), 0, "seed {seed}");

@@ -6,6 +6,7 @@ use reference::generate::{all_lists, even_homes, homes, label_with, other_homes,
 use reference::layout::{
     content, is_sound, label_of, layout, least_prices, soundness, way_is_greater, Homes, Prices,
 };
+use reference::model::GATEWAY;
 use reference::phase::{Activity, Answer, Order, Phase, LOOK_UP, PUT_IN, TAKE_OUT};
 
 fn prices(table: &[u64]) -> Prices {
@@ -59,7 +60,9 @@ fn checked_turn(
 ) -> Answer {
     let old_phase = phase.clone();
     let old_table = table.to_vec();
-    let answer = phase.turn(table, worker as u64).expect("no refusal");
+    let answer = phase
+        .turn(GATEWAY, table, worker as u64)
+        .expect("no refusal");
     // At most the touched cell changes; only that worker's record changes.
     let touched = touched(old_phase.workers[worker]);
     for cell in 0..table.len() {
@@ -68,7 +71,7 @@ fn checked_turn(
     let mut same = phase.clone();
     same.workers[worker] = old_phase.workers[worker];
     assert_eq!(same, old_phase);
-    assert!(!phase.is_spoilt());
+    assert!(!phase.is_spoilt(GATEWAY));
     // The answer fits the record.
     assert_eq!(answer == Answer::Idle, touched.is_none());
     assert_eq!(
@@ -173,7 +176,7 @@ fn random_shifts() {
                     })
                     .collect(),
             );
-            let mut phase = Phase::open(kind, count as u64, homes, &table, &list).unwrap();
+            let mut phase = Phase::open(GATEWAY, kind, count as u64, homes, &table, &list).unwrap();
             let mut wanted = rng.below(2 * count + n);
             let mut ordered = Vec::new();
             let mut turns = 0;
@@ -190,7 +193,7 @@ fn random_shifts() {
                         _ => (worker, label(rng), 0),
                     };
                     let idle = phase.workers[worker] == Activity::Idle;
-                    let answer = phase.order(&list, line as u64, worker as u64, label);
+                    let answer = phase.order(GATEWAY, &list, line as u64, worker as u64, label);
                     if kind == 1 && line == list.len() {
                         assert_eq!(answer, Err(15));
                     } else if idle {
@@ -209,7 +212,7 @@ fn random_shifts() {
                 turns += row;
                 assert!(turns < 1_000_000, "seed {seed} doesn't end");
             }
-            phase.close().unwrap();
+            phase.close(GATEWAY).unwrap();
             let set = expected(phase.kind, &opening, &ordered);
             assert_eq!(table, layout(homes, n, &set), "seed {seed}");
             closes += 1;
@@ -246,7 +249,8 @@ impl Walk {
                 if given < self.orders.len() {
                     let line = given * phase.count + worker;
                     let label = self.orders[given].0;
-                    let answer = phase.order(&self.list, line as u64, worker as u64, label);
+                    let answer =
+                        phase.order(GATEWAY, &self.list, line as u64, worker as u64, label);
                     answer.unwrap();
                     self.explore(&phase, table, given + 1);
                 }
@@ -258,7 +262,7 @@ impl Walk {
             }
         }
         if given == self.orders.len() && phase.all_idle() {
-            phase.clone().close().unwrap();
+            phase.clone().close(GATEWAY).unwrap();
             let set = expected(phase.kind, &self.opening, &self.orders);
             assert_eq!(table, layout(phase.homes, self.n, &set));
             self.ends += 1;
@@ -285,7 +289,7 @@ fn explore(
         .iter()
         .flat_map(|&entry| (0..count as u32).map(move |worker| order(worker, entry)))
         .collect();
-    let phase = match Phase::open(kind.into(), count as u64, homes, &table, &list) {
+    let phase = match Phase::open(GATEWAY, kind.into(), count as u64, homes, &table, &list) {
         Ok(phase) => phase,
         Err(number) => {
             assert_eq!(number, 9);
@@ -484,17 +488,19 @@ fn equal_least_prices_close_alike() {
                 price,
             };
             let list: Vec<Order> = orders.iter().map(order).collect();
-            let mut phase = Phase::open(1, count as u64, homes, &table, &list).unwrap();
+            let mut phase = Phase::open(GATEWAY, 1, count as u64, homes, &table, &list).unwrap();
             let mut given = 0;
             while given < list.len() || !phase.all_idle() {
                 if given < list.len() && rng.once_in(2) {
                     // A line whose worker is busy waits.
-                    given += usize::from(phase.order(&list, given as u64, 0, 0).is_ok());
+                    given += usize::from(phase.order(GATEWAY, &list, given as u64, 0, 0).is_ok());
                 } else {
-                    phase.turn(&mut table, rng.below(count) as u64).unwrap();
+                    phase
+                        .turn(GATEWAY, &mut table, rng.below(count) as u64)
+                        .unwrap();
                 }
             }
-            phase.close().unwrap();
+            phase.close(GATEWAY).unwrap();
             table
         });
         assert_eq!(tables[0], tables[1], "seed {seed}");
@@ -562,14 +568,14 @@ fn forged_records() {
             },
         };
         let old = (phase.clone(), table.clone());
-        let answer = phase.turn(&mut table, worker as u64);
-        assert_eq!(answer == Err(13), old.0.is_spoilt());
+        let answer = phase.turn(GATEWAY, &mut table, worker as u64);
+        assert_eq!(answer == Err(13), old.0.is_spoilt(GATEWAY));
         if answer.is_err() {
             spoilt += 1;
             assert_eq!((phase, table), old);
             continue;
         }
-        assert!(!phase.is_spoilt());
+        assert!(!phase.is_spoilt(GATEWAY));
         let touched = touched(old.0.workers[worker]);
         assert!((0..n).all(|c| table[c] == old.1[c] || Some(c) == touched));
     }

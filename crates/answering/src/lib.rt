@@ -8,6 +8,7 @@ use lines::Command;
 use lines::Line;
 use printing::Told;
 use state::Counted;
+use state::Device;
 use state::Phase;
 use state::Refusal;
 use state::Reply;
@@ -76,7 +77,16 @@ pub fn start() -> Replay
 {
     let one = [0u64; 1];
     let none = [0u32; 1];
-    let refused = Phase::open_parallel(3, 1, Hash { a: 1, b: 0 }, &one, &none, &none, &none);
+    let refused = Phase::open_parallel(
+        Device::Gateway,
+        3,
+        1,
+        Hash { a: 1, b: 0 },
+        &one,
+        &none,
+        &none,
+        &none,
+    );
     let phase = refused.phase;
     Replay {
         phase,
@@ -161,6 +171,7 @@ fn open_phase(
     let workers = 2 * fitting::MOST_ITEMS;
     let workers_end = workers + count;
     let replied = Phase::open_parallel(
+        Device::Gateway,
         kind as u64,
         crew as u64,
         hash,
@@ -208,7 +219,7 @@ fn give_order(replay: Replay, first: u32, key: u32, items: &[u32]) -> Done
     let phase = replay.phase;
     let count = replay.items;
     let found = dispatching::item_at(items, count, first as usize);
-    let replied = calls::order_found(phase, found, first as usize, key);
+    let replied = calls::order_found(Device::Gateway, phase, found, first as usize, key);
     let next = replied.phase;
     let reply = replied.reply;
     tell(next, replay.length, count, Told::Replied(reply))
@@ -220,7 +231,12 @@ fn take_turn(replay: Replay, worker: u32, cells: &mut [u64]) -> Done
 {
     let length = replay.length;
     let phase = replay.phase;
-    let turned = calls::turn(phase, &mut cells[..length], worker as usize);
+    let turned = calls::turn(
+        Device::Gateway,
+        phase,
+        &mut cells[..length],
+        worker as usize,
+    );
     let next = turned.phase;
     let reply = turned.reply;
     tell(next, length, replay.items, Told::Turned(reply))
@@ -266,7 +282,7 @@ fn close_phase(replay: Replay) -> Done
         (closeCall gateway (replay .phase)) ⌝ }
 {
     let phase = replay.phase;
-    let replied = calls::close(phase);
+    let replied = calls::close(Device::Gateway, phase);
     let next = replied.phase;
     let reply = replied.reply;
     let items = items_after(phase.kind, reply, replay.items);
@@ -280,7 +296,7 @@ fn list_table(replay: Replay, cells: &[u64]) -> Done
 {
     let length = replay.length;
     let phase = replay.phase;
-    let counted = rest::count(phase.hash, &cells[..length]);
+    let counted = rest::count(Device::Gateway, phase.hash, &cells[..length]);
     match counted {
         Counted::Count(count) => tell(phase, length, replay.items, Told::Listed(count)),
         Counted::Refused(why) => tell(

@@ -3,17 +3,19 @@ use formed::is_well_formed;
 use homes::Hash;
 use inplace::run_tested;
 use singly::run_singly;
+use state::Device;
 use state::Phase;
 use state::Replied;
 use state::Reply;
 ghost use Rattle.orders.specs.Orders.{ordersOf};
-ghost use Rattle.state.specs.Model.{gateway};
+ghost use Rattle.state.specs.Model.{modelOf};
 ghost use Rattle.numbered.specs.Batch.{Ran, Promised};
 ghost use Rattle.numbered.specs.Lists.{callsLent, RunsFrom};
 
 // Applies calls as run_singly does, from any phase on. The phase is tested once; if it is ill-formed, or the table has another length,
 // each call goes by itself.
 pub fn run_from(
+    device: Device,
     phase: Phase,
     cells: &mut [u64],
     order_keys: &[u32],
@@ -25,12 +27,13 @@ pub fn run_from(
     keys: &[u32],
     answers: &mut [u64],
 ) -> Phase
-    ensures { λ r. ⌜ RunsFrom gateway (ordersOf (now («order_keys» .entry)) (now («order_prices» .entry)) (now («order_workers» .entry))) phase (now (cells .entry))
+    ensures { λ r. ⌜ RunsFrom (modelOf device) (ordersOf (now («order_keys» .entry)) (now («order_prices» .entry)) (now («order_workers» .entry))) phase (now (cells .entry))
         (callsLent (now (ops .entry)) (now (lines .entry)) (now (workers .entry)) (now (keys .entry)) (now (answers .entry)))
         (now (answers .entry)) r (now (cells .exit)) (now (answers .exit)) ⌝ }
 {
     if phase.length as usize != cells.len() {
         return run_singly(
+            device,
             phase,
             cells,
             order_keys,
@@ -43,8 +46,9 @@ pub fn run_from(
             answers,
         );
     }
-    if !is_well_formed(phase) {
+    if !is_well_formed(device, phase) {
         return run_singly(
+            device,
             phase,
             cells,
             order_keys,
@@ -73,6 +77,7 @@ pub fn run_from(
 
 // Opens a phase with a list of orders and, if the opening is accepted, applies calls as above, each lent that list.
 pub fn run_calls(
+    device: Device,
     kind: u64,
     count: u64,
     hash: Hash,
@@ -86,15 +91,16 @@ pub fn run_calls(
     keys: &[u32],
     answers: &mut [u64],
 ) -> Replied
-    ensures is_run { λ r. ⌜ Ran gateway kind count hash (now (cells .entry))
+    ensures is_run { λ r. ⌜ Ran (modelOf device) kind count hash (now (cells .entry))
         (ordersOf (now («order_keys» .entry)) (now («order_prices» .entry)) (now («order_workers» .entry)))
         (now (ops .entry)) (now (lines .entry)) (now (workers .entry)) (now (keys .entry)) (now (answers .entry))
         r (now (cells .exit)) (now (answers .exit)) ⌝ }
-    ensures promise { λ r. ⌜ Promised gateway kind count hash (now (cells .entry))
+    ensures promise { λ r. ⌜ Promised (modelOf device) kind count hash (now (cells .entry))
         (ordersOf (now («order_keys» .entry)) (now («order_prices» .entry)) (now («order_workers» .entry)))
         (now (ops .entry)) (now (lines .entry)) (now (workers .entry)) (now (keys .entry)) (now (answers .entry)) ⌝ }
 {
     let opened = Phase::open_parallel(
+        device,
         kind,
         count,
         hash,
@@ -108,6 +114,7 @@ pub fn run_calls(
     match reply {
         Reply::Accepted => Replied {
             phase: run_from(
+                device,
                 phase,
                 cells,
                 order_keys,
@@ -130,6 +137,7 @@ pub fn run_calls(
 
 // The same with each call by itself.
 pub fn run_calls_singly(
+    device: Device,
     kind: u64,
     count: u64,
     hash: Hash,
@@ -143,15 +151,16 @@ pub fn run_calls_singly(
     keys: &[u32],
     answers: &mut [u64],
 ) -> Replied
-    ensures is_run { λ r. ⌜ Ran gateway kind count hash (now (cells .entry))
+    ensures is_run { λ r. ⌜ Ran (modelOf device) kind count hash (now (cells .entry))
         (ordersOf (now («order_keys» .entry)) (now («order_prices» .entry)) (now («order_workers» .entry)))
         (now (ops .entry)) (now (lines .entry)) (now (workers .entry)) (now (keys .entry)) (now (answers .entry))
         r (now (cells .exit)) (now (answers .exit)) ⌝ }
-    ensures promise { λ r. ⌜ Promised gateway kind count hash (now (cells .entry))
+    ensures promise { λ r. ⌜ Promised (modelOf device) kind count hash (now (cells .entry))
         (ordersOf (now («order_keys» .entry)) (now («order_prices» .entry)) (now («order_workers» .entry)))
         (now (ops .entry)) (now (lines .entry)) (now (workers .entry)) (now (keys .entry)) (now (answers .entry)) ⌝ }
 {
     let opened = Phase::open_parallel(
+        device,
         kind,
         count,
         hash,
@@ -165,6 +174,7 @@ pub fn run_calls_singly(
     match reply {
         Reply::Accepted => Replied {
             phase: run_singly(
+                device,
                 phase,
                 cells,
                 order_keys,

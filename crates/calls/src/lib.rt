@@ -1,4 +1,5 @@
-// The calls on a phase: order, turn and close, by value.
+// The calls on a phase: order, turn and close, by value. Each is told the model by whose limits the phase is tested; what reads no limit is the same in every
+// model.
 use activities::Activity;
 use activities::Worker;
 use formed::all_idle;
@@ -20,6 +21,7 @@ use protocol::TurnReply;
 use protocol::Turned;
 use rule::Answer;
 use rule::Place;
+use state::Device;
 use state::Phase;
 use state::Refusal;
 use state::Replied;
@@ -31,7 +33,7 @@ ghost use Prim.Native.Nat.{_<_};
 ghost use lib.ListN.{length};
 ghost use Rattle.prices.specs.Contents.{label, priceOk};
 ghost use Rattle.activities.specs.Activities.{activityOk};
-ghost use Rattle.state.specs.Model.{gateway};
+ghost use Rattle.state.specs.Model.{gateway, modelOf};
 ghost use Rattle.state.specs.Refusals.{firstOf};
 ghost use Rattle.protocol.specs.Bars.{mispriced, workerBars};
 ghost use Rattle.protocol.specs.Calls.{entryFor, closeCall, orderFound, orderCall, turnCall, turnTable};
@@ -49,11 +51,11 @@ fn refused(phase: Phase, why: Refusal) -> Replied
     }
 }
 
-pub fn close(mut phase: Phase) -> Replied
-    ensures { λ r. ⌜ r ≡ closeCall gateway phase ⌝ }
+pub fn close(device: Device, mut phase: Phase) -> Replied
+    ensures { λ r. ⌜ r ≡ closeCall (modelOf device) phase ⌝ }
 {
     let workers = phase.workers;
-    if !is_well_formed(phase) {
+    if !is_well_formed(device, phase) {
         return refused(phase, Refusal::Spoilt);
     }
     if phase.shut {
@@ -172,10 +174,16 @@ pub fn one_order(kind: u32, hash: Hash, length: u32, worker: Worker, key: u32, p
 
 // An order by a line that was found in the list lent, or by a worker and a key handed in. The workers are tested in its own body: the phase is not
 // copied for it.
-pub fn order_found(mut phase: Phase, found: Found, worker: usize, key: u32) -> Replied
-    ensures { λ r. ⌜ r ≡ orderFound gateway phase found worker key ⌝ }
+pub fn order_found(
+    device: Device,
+    mut phase: Phase,
+    found: Found,
+    worker: usize,
+    key: u32,
+) -> Replied
+    ensures { λ r. ⌜ r ≡ orderFound (modelOf device) phase found worker key ⌝ }
 {
-    if !numbers_ok(phase.kind, phase.length, phase.crew) {
+    if !numbers_ok(device, phase.kind, phase.length, phase.crew) {
         return refused(phase, Refusal::Spoilt);
     }
     let mut i: usize = 0;
@@ -213,11 +221,18 @@ pub fn order_found(mut phase: Phase, found: Found, worker: usize, key: u32) -> R
 }
 
 // The order call: in an insert phase by line `line` of the list, in the others for the worker and the key that are handed in.
-pub fn order(phase: Phase, orders: &[Order], line: usize, worker: usize, key: u32) -> Replied
-    ensures { λ r. ⌜ r ≡ orderCall gateway phase (now (orders .entry)) line worker key ⌝ }
+pub fn order(
+    device: Device,
+    phase: Phase,
+    orders: &[Order],
+    line: usize,
+    worker: usize,
+    key: u32,
+) -> Replied
+    ensures { λ r. ⌜ r ≡ orderCall (modelOf device) phase (now (orders .entry)) line worker key ⌝ }
 {
     let found = line_at(orders, line);
-    order_found(phase, found, worker, key)
+    order_found(device, phase, found, worker, key)
 }
 
 // ---- turn
@@ -277,10 +292,10 @@ fn turn_refused(phase: Phase, why: Refusal) -> Turned
 }
 
 // A turn of one worker of the phase. The workers are tested in its own body: the phase is not copied for it.
-pub fn turn(mut phase: Phase, cells: &mut [u64], worker: usize) -> Turned
-    ensures { λ r. ⌜ (r ≡ turnCall gateway phase (now (cells .entry)) worker) × (now (cells .exit) ≡ turnTable gateway phase (now (cells .entry)) worker) ⌝ }
+pub fn turn(device: Device, mut phase: Phase, cells: &mut [u64], worker: usize) -> Turned
+    ensures { λ r. ⌜ (r ≡ turnCall (modelOf device) phase (now (cells .entry)) worker) × (now (cells .exit) ≡ turnTable (modelOf device) phase (now (cells .entry)) worker) ⌝ }
 {
-    if !numbers_ok(phase.kind, phase.length, phase.crew) {
+    if !numbers_ok(device, phase.kind, phase.length, phase.crew) {
         return turn_refused(phase, Refusal::Spoilt);
     }
     let mut i: usize = 0;

@@ -28,6 +28,7 @@ use Rattle.rule.specs.Schedules.{one, ones}
 use Rattle.state.specs.Model.{gateway}
 use Rattle.state.specs.Open.{openCall}
 use Rattle.state.specs.Refusals.{replyNumber}
+use Rattle.state.specs.declared.Device.the-variants.{Gateway}
 use Rattle.state.proofs.Model.{gateway-proper}
 use Rattle.protocol.specs.Bars.{doing}
 use Rattle.protocol.specs.Calls.{turnNumber, withWorker, closeCall, orderCall, turnCall, turnTable}
@@ -39,7 +40,7 @@ use Rattle.protocol.specs.Split.{oneTurn, oneTable, SplitTurn, SplitOrder}
 use Rattle.protocol.specs.WellFormed.{Size, Crew, WellFormed}
 use Rattle.protocol.specs.declared.Moved.{Moved}
 use Rattle.protocol.specs.declared.TurnReply.the-variants.{Answered}
-use Rattle.protocol.proofs.Keeping.{places, gateway-never-spoilt}
+use Rattle.protocol.proofs.Keeping.{places, each-never-spoilt}
 use Rattle.protocol.proofs.Lines.{blank-first, price-first, worker-first, fills-says}
 use Rattle.protocol.proofs.Soundness.{sounds}
 use Rattle.protocol.proofs.Split.{splits}
@@ -217,7 +218,7 @@ few-order = refl
 
 -- worker 0 of the record just opened may be given orders
 opened-formed : WellFormed gateway justOpened
-opened-formed = gateway-never-spoilt justOpened (opened 1 2 plain (emptyCells 5) sheetItems)
+opened-formed = each-never-spoilt Gateway justOpened (opened 1 2 plain (emptyCells 5) sheetItems)
 
 first-worker : 0 < justOpened .crew
 first-worker = rw (rests .crew) (omega arith)
@@ -384,7 +385,7 @@ call-corollaries =
       turn-leaves = taken .others .others 0 (λ z. omega arith);
       closes = ended .shut;
       close-leaves = ended .workers;
-      unspoilt = λ e. let (spoilt, _) = closes gateway madeOnOthers .answers in spoilt .0 e .1 (gateway-never-spoilt madeOnOthers made);
+      unspoilt = λ e. let (spoilt, _) = closes gateway madeOnOthers .answers in spoilt .0 e .1 (each-never-spoilt Gateway madeOnOthers made);
       places = places gateway madeOnOthers made;
       apart-reply = split-turn .reply ∙ ap (λ (m : Moved). m .reply) one-turn;
       apart-phase = split-turn .phase ∙ ap (λ (m : Moved). withWorker fewWorkers 1 (m .worker .activity)) one-turn;

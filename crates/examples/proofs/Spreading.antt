@@ -35,6 +35,7 @@ use Rattle.state.specs.Counts.{countNumber}
 use Rattle.state.specs.Model.{Proper, gateway}
 use Rattle.state.specs.Open.{openReply, openCall}
 use Rattle.state.specs.Refusals.{replyNumber}
+use Rattle.state.specs.declared.Device.the-variants.{Gateway}
 use Rattle.state.specs.declared.Phase.{Phase}
 use Rattle.state.specs.declared.Reply.the-variants.{Accepted}
 use Rattle.state.proofs.Model.{gateway-proper}
@@ -46,7 +47,7 @@ use Rattle.protocol.specs.Split.{oneTurn, SplitTurn}
 use Rattle.protocol.specs.WellFormed.{Size, Crew, Kind, WellFormed}
 use Rattle.protocol.specs.declared.TurnReply.the-variants.{Answered}
 use Rattle.protocol.proofs.Homing.{homing}
-use Rattle.protocol.proofs.Keeping.{gateway-never-spoilt}
+use Rattle.protocol.proofs.Keeping.{each-never-spoilt}
 use Rattle.protocol.proofs.Soundness.{sounds}
 use Rattle.protocol.proofs.Split.{splits}
 use Rattle.protocol.proofs.Theorem.{hash-untested, well-formed, opens, orders, turns, closes}
@@ -399,7 +400,7 @@ spread-corollaries = record {
   unspoilt-by-others = λ ab p h. let (_, _, ne) = h [] 0 0 0 [] in well-unspoilt (withHash p ab) (hash-untested gateway p ab .1 (formed-if p ne));
   never-spoilt = λ k m ab t os e.
       let p = openCall gateway k m ab t os .phase in
-      closes gateway p .answers .0 .0 e .1 (gateway-never-spoilt p (opened k m ab t os));
+      closes gateway p .answers .0 .0 e .1 (each-never-spoilt Gateway p (opened k m ab t os));
   starts = started sixLess;
   starts-even = started twice;
   replies = alike .replies;

@@ -2,6 +2,7 @@
 use activities::Activity;
 use activities::Worker;
 use prices::PRICES;
+use state::Device;
 use state::Phase;
 ghost use mathlib.Core.Path.{_≡_};
 ghost use mathlib.Core.Bool.{false, cond};
@@ -9,7 +10,7 @@ ghost use mathlib.Core.List.{[], _∷_};
 ghost use lib.Dec.{eqb};
 ghost use Rattle.prices.specs.Contents.{label};
 ghost use Rattle.activities.specs.Activities.{isIdle, allBelow, activityOk};
-ghost use Rattle.state.specs.Model.{gateway};
+ghost use Rattle.state.specs.Model.{modelOf};
 ghost use Rattle.protocol.specs.Bars.{allIdle};
 ghost use Rattle.protocol.specs.IsWellFormed.{numbersOk, isWellFormed};
 
@@ -121,17 +122,17 @@ pub fn activity_ok(kind: u32, length: u32, activity: Activity) -> bool
 }
 
 // ---- phase states
-// Whether the numbers of a phase are within their bounds.
-pub fn numbers_ok(kind: u32, length: u32, crew: u32) -> bool
-    ensures { λ r. ⌜ r ≡ numbersOk gateway kind length crew ⌝ }
+// Whether the numbers of a phase are within the bounds of a model.
+pub fn numbers_ok(device: Device, kind: u32, length: u32, crew: u32) -> bool
+    ensures { λ r. ⌜ r ≡ numbersOk (modelOf device) kind length crew ⌝ }
 {
     if !Phase::kind_ok(kind as u64) {
         return false;
     }
-    if !Phase::size_ok(length as usize) {
+    if !Phase::size_ok(device, length as usize) {
         return false;
     }
-    Phase::crew_ok(crew as usize)
+    Phase::crew_ok(device, crew as usize)
 }
 
 // Whether a worker, below the worker count or past it, may have this activity.
@@ -145,11 +146,11 @@ pub fn worker_ok(kind: u32, length: u32, active: bool, activity: Activity) -> bo
     }
 }
 
-// Whether a phase is not spoilt, in document 01's word.
-pub fn is_well_formed(phase: Phase) -> bool
-    ensures { λ r. ⌜ r ≡ isWellFormed gateway phase ⌝ }
+// Whether a phase is not spoilt, in document 01's word, to a model.
+pub fn is_well_formed(device: Device, phase: Phase) -> bool
+    ensures { λ r. ⌜ r ≡ isWellFormed (modelOf device) phase ⌝ }
 {
-    if !numbers_ok(phase.kind, phase.length, phase.crew) {
+    if !numbers_ok(device, phase.kind, phase.length, phase.crew) {
         return false;
     }
     let mut i: usize = 0;

@@ -19,15 +19,15 @@ use Rattle.rule.specs.Events as events
 use Rattle.rule.specs.Events.{Run}
 use Rattle.phases.specs.Promise.{Carries, SameOrders}
 use Rattle.determinism.proofs.Theorem.{phases}
-use Rattle.state.specs.Model.{Model, gateway}
-use Rattle.state.proofs.Model.{gateway-proper}
+use Rattle.state.specs.Model.{Model, modelOf}
+use Rattle.state.proofs.Model.{proper}
 use Rattle.state.specs.Open.{refusedPhase}
 use Rattle.state.specs.declared.Phase.{Phase}
 use Rattle.state.specs.declared.Reply.the-variants.{Accepted}
 use Rattle.protocol.specs.Calls.{closeReply}
 use Rattle.protocol.proofs.Theorem.{open-passed}
 use Rattle.history.specs.History.{Call, order, turn, close, History, call, run, Lent, runLent, opening, after, afterLent}
-use Rattle.history.specs.Promise.{entriesAfter, HistoryPromise, AnyListsPromise, RefusedPromise, KeepsTablePromise, FixedPromise, OneTablePromise, GatewayOneTable, TwoTurnsPromise}
+use Rattle.history.specs.Promise.{entriesAfter, HistoryPromise, AnyListsPromise, RefusedPromise, KeepsTablePromise, FixedPromise, OneTablePromise, BothOneTable, TwoTurnsPromise}
 use Rattle.history.proofs.Claim.{known, closed, cells, cheapest, remaining, formed, as-opened, bounded, accepts, ordering, prices, only, union, each}
 use Rattle.history.proofs.Counts.{counts}
 use Rattle.history.proofs.Opening.{homes, resting, opening-untouched, opening-taken, opening-shows}
@@ -159,8 +159,8 @@ pub one-table : OneTablePromise
 one-table M M′ proper proper′ k m m′ ab ab′ t os os′ agree a a′ cs cs′ same =
     fixed M M′ proper proper′ k k m m′ ab ab′ t t os os′ refl agree a a′ cs cs′ (same-orders k (after M k m ab t os cs .ordered) (after M′ k m′ ab′ t os′ cs′ .ordered) t same)
 
-pub gateway-one-table : GatewayOneTable
-gateway-one-table k m m′ ab t os os′ = one-table gateway gateway gateway-proper gateway-proper k m m′ ab ab t os os′ (λ x. refl)
+pub both-one-table : BothOneTable
+both-one-table d d′ k m m′ ab t os os′ = one-table (modelOf d) (modelOf d′) (proper d) (proper d′) k m m′ ab ab t os os′ (λ x. refl)
 
 -- ---- two turns
 pub two-turns : TwoTurnsPromise

@@ -20,10 +20,11 @@ use Rattle.activities.specs.Activities.{entryOf}
 use Rattle.rule.specs.Events.{Said}
 use Rattle.rule.specs.Rule.{touched}
 use Rattle.phases.specs.Promise.{mostSteps, Right, SameOrders}
-use Rattle.state.specs.Model.{Model, Proper, gateway, sizeOk, crewOk}
+use Rattle.state.specs.Model.{Model, Proper, modelOf, sizeOk, crewOk}
 use Rattle.state.specs.Open.{openReply, refusedPhase}
 use Rattle.activities.specs.declared.Activity.the-variants.{Idle}
 use Rattle.activities.specs.declared.Worker.{Worker}
+use Rattle.state.specs.declared.Device.{Device}
 use Rattle.state.specs.declared.Phase.{Phase}
 use Rattle.state.specs.declared.Reply.the-variants.{Accepted}
 use Rattle.protocol.specs.Bars.{doing}
@@ -167,32 +168,38 @@ SameHomes M M′ ab ab′ n = (x : ℕ) → M .home ab n x ≡ M′ .home ab′ 
 -- ---- a closed table is fixed by its keys and the least price of each: two lists so closed, of whatever kinds, opened on tables of one length, leave
 -- equal tables if the entries that they leave have the same keys, each with the same least price, and homes are computed alike: with equal a and b, also in
 -- two models of one rule
-abbrev pub FixedPromise : Type 0
-FixedPromise = (M M′ : Model) → Proper M → Proper M′ → (k k′ m m′ : ℕ) (ab ab′ : Hash) (t t′ : List ℕ) (os os′ : List Order) → length t ≡ length t′
+abbrev pub Fixed : (M M′ : Model) → Type 0
+Fixed M M′ = (k k′ m m′ : ℕ) (ab ab′ : Hash) (t t′ : List ℕ) (os os′ : List Order) → length t ≡ length t′
     → SameHomes M M′ ab ab′ (length t)
     → openReply M k m ab t os ≡ Accepted → openReply M′ k′ m′ ab′ t′ os′ ≡ Accepted → (cs cs′ : List Call)
     → SameLeast label (entriesAfter k (after M k m ab t os cs .ordered) t) (entriesAfter k′ (after M′ k′ m′ ab′ t′ os′ cs′ .ordered) t′)
     → after M k m ab t os cs .closed ≡ true → after M′ k′ m′ ab′ t′ os′ cs′ .closed ≡ true
     → after M k m ab t os cs .table ≡ after M′ k′ m′ ab′ t′ os′ cs′ .table
 
+abbrev pub FixedPromise : Type 0
+FixedPromise = (M M′ : Model) → Proper M → Proper M′ → Fixed M M′
+
 -- ---- two lists so closed, of one kind, opened on equal tables and with the same set of keys in their accepted orders, in insert phases also with
 -- the same least ordered price of each, leave equal tables, whatever else stood in their lists of orders, if homes are computed alike: with equal a and b,
 -- also in two models of one rule
-abbrev pub OneTablePromise : Type 0
-OneTablePromise = (M M′ : Model) → Proper M → Proper M′ → (k m m′ : ℕ) (ab ab′ : Hash) (t : List ℕ) (os os′ : List Order)
+abbrev pub OneTable : (M M′ : Model) → Type 0
+OneTable M M′ = (k m m′ : ℕ) (ab ab′ : Hash) (t : List ℕ) (os os′ : List Order)
     → SameHomes M M′ ab ab′ (length t)
     → openReply M k m ab t os ≡ Accepted → openReply M′ k m′ ab′ t os′ ≡ Accepted → (cs cs′ : List Call)
     → SameOrders k label (after M k m ab t os cs .ordered) (after M′ k m′ ab′ t os′ cs′ .ordered)
     → after M k m ab t os cs .closed ≡ true → after M′ k m′ ab′ t os′ cs′ .closed ≡ true
     → after M k m ab t os cs .table ≡ after M′ k m′ ab′ t os′ cs′ .table
 
--- in the gateway, by one a and b, with nothing left to assume
-abbrev pub GatewayOneTable : Type 0
-GatewayOneTable = (k m m′ : ℕ) (ab : Hash) (t : List ℕ) (os os′ : List Order)
-    → openReply gateway k m ab t os ≡ Accepted → openReply gateway k m′ ab t os′ ≡ Accepted → (cs cs′ : List Call)
-    → SameOrders k label (after gateway k m ab t os cs .ordered) (after gateway k m′ ab t os′ cs′ .ordered)
-    → after gateway k m ab t os cs .closed ≡ true → after gateway k m′ ab t os′ cs′ .closed ≡ true
-    → after gateway k m ab t os cs .table ≡ after gateway k m′ ab t os′ cs′ .table
+abbrev pub OneTablePromise : Type 0
+OneTablePromise = (M M′ : Model) → Proper M → Proper M′ → OneTable M M′
+
+-- in the documents' models, twice in one or in one and the other, by one a and b: a table that both may open closes alike in both. Nothing is left to assume
+abbrev pub BothOneTable : Type 0
+BothOneTable = (d d′ : Device) (k m m′ : ℕ) (ab : Hash) (t : List ℕ) (os os′ : List Order)
+    → openReply (modelOf d) k m ab t os ≡ Accepted → openReply (modelOf d′) k m′ ab t os′ ≡ Accepted → (cs cs′ : List Call)
+    → SameOrders k label (after (modelOf d) k m ab t os cs .ordered) (after (modelOf d′) k m′ ab t os′ cs′ .ordered)
+    → after (modelOf d) k m ab t os cs .closed ≡ true → after (modelOf d′) k m′ ab t os′ cs′ .closed ≡ true
+    → after (modelOf d) k m ab t os cs .table ≡ after (modelOf d′) k m′ ab t os′ cs′ .table
 
 -- ---- two turns, for any phase states and tables: a turn depends on the kind, a and b, the length, its worker's record and its one cell alone
 pub record Alike (M : Model) (p q : Phase) (t u : List ℕ) (w z : ℕ) : Type 0 where
@@ -205,7 +212,10 @@ pub record Alike (M : Model) (p q : Phase) (t u : List ℕ) (w z : ℕ) : Type 0
   pub other-workers : (v : ℕ) → v ≢ w → doing (turnCall M p t w .phase) v ≡ doing p v
   pub sized : length (turnTable M p t w) ≡ length t
 
-abbrev pub TwoTurnsPromise : Type 0
-TwoTurnsPromise = (M : Model) (p q : Phase) (t u : List ℕ) (w z : ℕ) → turnCheck M p t w ≡ Accepted → turnCheck M q u z ≡ Accepted
+abbrev pub TwoTurns : Model → Type 0
+TwoTurns M = (p q : Phase) (t u : List ℕ) (w z : ℕ) → turnCheck M p t w ≡ Accepted → turnCheck M q u z ≡ Accepted
     → p .kind ≡ q .kind → p .hash ≡ q .hash → length t ≡ length u → doing p w ≡ doing q z → ((c : ℕ) → touched (doing p w) ≡ At c → getD t c 0 ≡ getD u c 0)
     → Alike M p q t u w z
+
+abbrev pub TwoTurnsPromise : Type 0
+TwoTurnsPromise = (M : Model) → TwoTurns M

@@ -14,11 +14,12 @@ use Rattle.orders.specs.Orders.{lineAt}
 use Rattle.orders.specs.declared.Found.{Found}
 use Rattle.orders.specs.declared.Order.{Order}
 use Rattle.activities.specs.Activities.{activityOk, idle}
-use Rattle.state.specs.Model.{Model, gateway}
+use Rattle.state.specs.Model.{Model, modelOf, gateway}
+use Rattle.state.specs.declared.Device.{Device}
 use Rattle.state.specs.declared.Phase.{Phase}
 use Rattle.state.specs.declared.Refusal.the-variants.{NoWorker, Working, Shut, NoLine}
 use Rattle.state.specs.declared.Reply.the-variants.{Accepted, Refused}
-use Rattle.state.proofs.Model.{gateway-proper}
+use Rattle.state.proofs.Model.{most-workers, proper}
 use Rattle.protocol.specs.Bars.{allIdle}
 use Rattle.protocol.specs.Calls.{shutPhase, orderFound, orderCall}
 use Rattle.protocol.specs.Split.{oneOrder, oneTurn, oneTable}
@@ -95,10 +96,16 @@ module _ (M : Model) (os : List Order) (p : Phase) (t : List ℕ) (good : isWell
           turn-applies M os p t w a (with-moved p w m) t′ (ap (with-moved p w) is ∙ e) (cells ∙ f) number
 
 -- ---- a list of calls
--- i calls of the list are run, and have led to the phase p, the table t and the answers out: p is well formed and as long as t
+-- the phase p is well formed to the device d
+abbrev Good : Phase → Device → Type 0
+Good p d = isWellFormed (modelOf d) p ≡ true
+
+-- i calls of the list are run, and have led to the phase p, the table t and the answers out: to every device to which the first phase was well formed p is it
+-- still, there is such a device, and p is as long as t
 pub record InPlace (os : List Order) (ops lines workers keys : List ℕ) (p₀ : Phase) (t₀ out₀ : List ℕ) (i : ℕ) (p : Phase) (t out : List ℕ) : Type 0 where
-  pub ran : RunsFrom gateway os p₀ t₀ (callsOf ops lines workers keys i) out₀ p t out
-  pub good : isWellFormed gateway p ≡ true
+  pub ran : (d : Device) → Good p₀ d → RunsFrom (modelOf d) os p₀ t₀ (callsOf ops lines workers keys i) out₀ p t out
+  pub good : (d : Device) → Good p₀ d → Good p d
+  pub some : (d : Device) × Good p₀ d
   pub fits : p .length ≡ length t
   pub same-cells : length t ≡ length t₀
   pub same-answers : length out ≡ length out₀
@@ -113,16 +120,22 @@ bare p t = record { table = t; phase = p; ordered = []; pending = []; said = [];
 
 module _ {os : List Order} {ops lines workers keys : List ℕ} {p₀ : Phase} {t₀ out₀ : List ℕ} {i : ℕ} {p : Phase} {t out : List ℕ}
     (h : InPlace os ops lines workers keys p₀ t₀ out₀ i p t out) where
+  abbrev device : Device
+  device = h .some .0
+
+  abbrev well : Good p device
+  well = h .good device (h .some .1)
+
   pub some-cells : 0 < p .length
-  some-cells = omega (arith, well-formed-says gateway p .0 (h .good) .size)
+  some-cells = omega (arith, well-formed-says (modelOf device) p .0 well .size)
 
   -- the record has a place for each worker
   pub few-workers : p .crew ≤ 16
-  few-workers = well-formed-says gateway p .0 (h .good) .crew .1
+  few-workers = omega (arith, well-formed-says (modelOf device) p .0 well .crew, most-workers device)
 
   -- what the turn of a worker must find
   pub worker-fits : (w : ℕ) → w < p .crew → (activityOk (p .kind) (p .length) label (getD (p .workers) w idle .activity) ≡ true) × (p .length ≡ length t)
-  worker-fits w below = (good-worker gateway p (h .good) w below, h .fits)
+  worker-fits w below = (good-worker (modelOf device) p well w below, h .fits)
 
   -- the next call
   abbrev op : ℕ
@@ -151,32 +164,41 @@ module _ {os : List Order} {ops lines workers keys : List ℕ} {p₀ : Phase} {t
   abbrev Barred : ℕ → Type 0
   Barred b = b ≢ 0 → Next p t b
 
+  -- what a call gives, to every device to which the phase is well formed
+  abbrev Gives : Call → Applied → List ℕ → Type 0
+  Gives c r t′ = (d : Device) → Good p d → Applies (modelOf d) os p t c r t′
+
   module _ (room : i < length out₀) where
-    one-more : (r : Applied) (t′ : List ℕ) → Applies gateway os p t (callOf op line worker key) r t′ → r .phase .length ≡ p .length → length t′ ≡ length t
+    one-more : (r : Applied) (t′ : List ℕ) → Gives (callOf op line worker key) r t′ → r .phase .length ≡ p .length → length t′ ≡ length t
         → Next (r .phase) t′ (r .answer)
     one-more r t′ applies as-long kept =
-        let formed = call-keeps gateway os (callOf op line worker key) (bare p t) (λ v. gateway-proper .homes (p .hash) (p .length) v some-cells)
-        (well-formed-says gateway p .0 (h .good)) in
+        let formed : (d : Device) → Good p d → Good (r .phase) d =
+        λ d g. rw (applies d g (bare p t) refl refl .phase)
+        (well-formed-says (modelOf d) _ .1
+        (call-keeps (modelOf d) os (callOf op line worker key) (bare p t) (λ v. proper d .homes (p .hash) (p .length) v some-cells)
+        (well-formed-says (modelOf d) p .0 g))) in
         record {
-          ran = one-more-run gateway os ops lines workers keys i p₀ t₀ out₀ p t out r t′ room (h .ran) applies;
-          good = rw (applies (bare p t) refl refl .phase) (well-formed-says gateway _ .1 formed);
+          ran = λ d g.
+              one-more-run (modelOf d) os ops lines workers keys i p₀ t₀ out₀ p t out r t′ room (h .ran d g) (applies d (h .good d g));
+          good = λ d g. formed d (h .good d g);
+          some = h .some;
           fits = as-long ∙ h .fits ∙ omega arith;
           same-cells = kept ∙ h .same-cells;
           same-answers = length-set out i (r .answer) ∙ h .same-answers;
         }
 
     -- ---- order
-    order-more : op ≡ 1 → (r : Applied) → Applies gateway os p t (order line worker key) r t → r .phase .length ≡ p .length → Next (r .phase) t (r .answer)
+    order-more : op ≡ 1 → (r : Applied) → Gives (order line worker key) r t → r .phase .length ≡ p .length → Next (r .phase) t (r .answer)
     order-more is r applies as-long = one-more r t (rw (eq-eqb op 1 is) applies) as-long refl
 
     module _ (ordered : op ≡ 1) (l : Found) (found : l ≡ lineAt os line) (a : Asked) (is : a ≡ askedFor (p .kind) l worker key) (b : ℕ) (told : b ≡ order-bar a) where
       pub order-barred-next : b ≢ 0 → Next p t b
       order-barred-next = rw told
-          (tested Barred (p .shut) (λ shut _. order-more ordered _ (shut-applies gateway os p t (h .good) shut (order line worker key)) refl)
-          (λ up. tested Barred (a .lacks) (λ lacks _. order-more ordered _ (lacking-applies gateway os p t (h .good) up line worker key l found a is lacks) refl)
+          (tested Barred (p .shut) (λ shut _. order-more ordered _ (λ d ok. shut-applies (modelOf d) os p t ok shut (order line worker key)) refl)
+          (λ up. tested Barred (a .lacks) (λ lacks _. order-more ordered _ (λ d ok. lacking-applies (modelOf d) os p t ok up line worker key l found a is lacks) refl)
           (λ there. tested Barred (ltb (a .worker) (p .crew)) (λ _ ne. absurd (ne refl))
           (λ past _. order-more ordered _
-          (unordered-applies gateway os p t (h .good) up line worker key l found a is there (ltb-false (a .worker) (p .crew) past)) refl))))
+          (λ d ok. unordered-applies (modelOf d) os p t ok up line worker key l found a is there (ltb-false (a .worker) (p .crew) past)) refl))))
 
       module _ (pass : b ≡ 0) where
         -- the phase is open, the list has the line and the phase the worker
@@ -197,22 +219,22 @@ module _ {os : List Order} {ops lines workers keys : List ℕ} {p₀ : Phase} {t
             → n ≡ replyAnswer (g .reply) → Next (with-given p (a .worker) g .phase) t n
         given-next g n gives number =
             order-more ordered _
-            (given-applies gateway os p t (h .good) (passed .0) line worker key l found a is (passed .1) (passed .2) g n gives number) refl
+            (λ d ok. given-applies (modelOf d) os p t ok (passed .0) line worker key l found a is (passed .1) (passed .2) g n gives number) refl
 
     -- ---- any other call
     module _ (no-order : op ≢ 1) where
-      turn-more : op ≡ 2 → (r : Applied) (t′ : List ℕ) → Applies gateway os p t (turn worker) r t′ → r .phase .length ≡ p .length → length t′ ≡ length t
+      turn-more : op ≡ 2 → (r : Applied) (t′ : List ℕ) → Gives (turn worker) r t′ → r .phase .length ≡ p .length → length t′ ≡ length t
           → Next (r .phase) t′ (r .answer)
       turn-more is r t′ applies as-long kept = one-more r t′ (rw (ne-eqb op 1 no-order, eq-eqb op 2 is) applies) as-long kept
 
       module _ (b : ℕ) (is : b ≡ bar) where
         pub barred-next : b ≢ 0 → Next p t b
         barred-next = rw is
-            (tested Barred (p .shut) (λ shut _. one-more _ t (shut-applies gateway os p t (h .good) shut (callOf op line worker key)) refl refl)
+            (tested Barred (p .shut) (λ shut _. one-more _ t (λ d ok. shut-applies (modelOf d) os p t ok shut (callOf op line worker key)) refl refl)
             (λ up. tested Barred (ltb worker (p .crew)) (λ _ ne. absurd (ne refl))
             (λ past. tested Barred (eqb op 2)
             (λ e _. turn-more (eqb-true op 2 e) _ t
-            (unturned-applies gateway os p t (h .good) up (h .fits) worker (ltb-false worker (p .crew) past)) refl refl)
+            (λ d ok. unturned-applies (modelOf d) os p t ok up (h .fits) worker (ltb-false worker (p .crew) past)) refl refl)
             (λ _ ne. absurd (ne refl)))))
 
         module _ (pass : b ≡ 0) where
@@ -230,17 +252,17 @@ module _ {os : List Order} {ops lines workers keys : List ℕ} {p₀ : Phase} {t
               → length t′ ≡ length t → n ≡ turnAnswer (m .reply) → Next (with-moved p worker m .phase) t′ n
           moved-next e m t′ n gives kept number =
               turn-more e _ t′
-              (moved-applies gateway os p t (h .good) open-still (h .fits) worker (turned-below e) m t′ n (gives .0) (gives .1) number) refl kept
+              (λ d ok. moved-applies (modelOf d) os p t ok open-still (h .fits) worker (turned-below e) m t′ n (gives .0) (gives .1) number) refl kept
 
           -- ---- close
-          close-more : op ≢ 2 → (r : Applied) → Applies gateway os p t close r t → r .phase .length ≡ p .length → Next (r .phase) t (r .answer)
+          close-more : op ≢ 2 → (r : Applied) → Gives close r t → r .phase .length ≡ p .length → Next (r .phase) t (r .answer)
           close-more no-turn r applies as-long = one-more r t (rw (ne-eqb op 1 no-order, ne-eqb op 2 no-turn) applies) as-long refl
 
           pub closed-next : op ≢ 2 → (free : Bool) (n : ℕ) → free ≡ allIdle (p .workers) → n ≡ cond free 0 (refusalAnswer Working)
               → Next (with-shut p free) t n
           closed-next no-turn true n freed number =
-              rw number (close-more no-turn _ (closed-applies gateway os p t (h .good) open-still (sym freed)) refl)
+              rw number (close-more no-turn _ (λ d ok. closed-applies (modelOf d) os p t ok open-still (sym freed)) refl)
           closed-next no-turn false n freed number =
               rw number
               (subst (λ (x : Bool). Next (with-shut p x) t (refusalAnswer Working)) open-still
-              (close-more no-turn _ (working-applies gateway os p t (h .good) open-still (sym freed)) refl))
+              (close-more no-turn _ (λ d ok. working-applies (modelOf d) os p t ok open-still (sym freed)) refl))

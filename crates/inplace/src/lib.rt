@@ -8,6 +8,7 @@ use singly::fewest;
 use singly::refusal_answer;
 use singly::reply_answer;
 use singly::turn_answer;
+use state::Device;
 use state::Phase;
 use state::Refusal;
 ghost use mathlib.Core.Path.{_≡_};
@@ -15,7 +16,7 @@ ghost use mathlib.Core.Bool.{true, cond};
 ghost use lib.Dec.{ltb, eqb};
 ghost use lib.ListN.{length};
 ghost use Rattle.orders.specs.Orders.{ordersOf};
-ghost use Rattle.state.specs.Model.{gateway};
+ghost use Rattle.state.specs.Model.{modelOf};
 ghost use Rattle.protocol.specs.IsWellFormed.{isWellFormed};
 ghost use Rattle.numbered.specs.Numbers.{refusalAnswer};
 ghost use Rattle.numbered.specs.Lists.{callsLent, RunsFrom};
@@ -67,8 +68,8 @@ fn close_answer(idle: bool) -> u64
     }
 }
 
-// Applies calls as run_singly does, from a well-formed phase on and on a table as long as it says. Neither is tested:
-// the phase stays in place, and one worker a call goes by value.
+// Applies calls as run_singly does, from a phase on that is well formed to some model, and on a table as long as it says. Neither is tested: the phase stays
+// in place, and one worker a call goes by value. To every model to which the phase is well formed, these are that model's calls.
 pub fn run_tested(
     phase: Phase,
     cells: &mut [u64],
@@ -81,10 +82,11 @@ pub fn run_tested(
     keys: &[u32],
     answers: &mut [u64],
 ) -> Phase
-    requires { ⌜ (isWellFormed gateway phase ≡ true) × (phase .length ≡ length (now cells)) ⌝ }
-    ensures { λ r. ⌜ RunsFrom gateway (ordersOf (now («order_keys» .entry)) (now («order_prices» .entry)) (now («order_workers» .entry))) phase (now (cells .entry))
+    requires { ⌜ ((d : Device) × (isWellFormed (modelOf d) phase ≡ true)) × (phase .length ≡ length (now cells)) ⌝ }
+    ensures { λ r. ⌜ ((d : Device) → isWellFormed (modelOf d) phase ≡ true
+        → RunsFrom (modelOf d) (ordersOf (now («order_keys» .entry)) (now («order_prices» .entry)) (now («order_workers» .entry))) phase (now (cells .entry))
         (callsLent (now (ops .entry)) (now (lines .entry)) (now (workers .entry)) (now (keys .entry)) (now (answers .entry)))
-        (now (answers .entry)) r (now (cells .exit)) (now (answers .exit)) ⌝ }
+        (now (answers .entry)) r (now (cells .exit)) (now (answers .exit))) ⌝ }
 {
     let all = fewest(
         ops.len(),

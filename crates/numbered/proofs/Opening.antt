@@ -3,9 +3,8 @@ use mathlib.Core.Path.{_≡_, refl, sym, ap, _∙_, subst}
 use mathlib.Core.List.{List}
 use Prim.Native.Nat.{ℕ}
 use Rattle.homes.specs.declared.Hash.{Hash}
-use Rattle.state.proofs.Model.{gateway-proper}
 use Rattle.orders.specs.declared.Order.{Order}
-use Rattle.state.specs.Model.{Model, gateway}
+use Rattle.state.specs.Model.{Model, Proper}
 use Rattle.state.specs.Open.{openReply, opened, openCall}
 use Rattle.state.specs.declared.Phase.{Phase}
 use Rattle.state.specs.declared.Refusal.{Refusal}
@@ -48,20 +47,21 @@ module _ (M : Model) (k m : ℕ) (ab : Hash) (t : List ℕ) (os : List Order) wh
         dealt-ran (Refused why) (o .phase) t out read (record { phase = ap (λ (x : Replied). x .phase) is; table = refl; answers = refl })
 
 -- the calls after an accepted opening keep the promises
-promised : (k m : ℕ) (ab : Hash) (t : List ℕ) (os : List Order) (ops lines workers keys out : List ℕ) → Promised gateway k m ab t os ops lines workers keys out
-promised k m ab t os ops lines workers keys out accepted = history gateway gateway-proper k m ab t os accepted (dealt gateway k m ab t os ops lines workers keys out)
+promised : (M : Model) → Proper M → (k m : ℕ) (ab : Hash) (t : List ℕ) (os : List Order) (ops lines workers keys out : List ℕ)
+    → Promised M k m ab t os ops lines workers keys out
+promised M proper k m ab t os ops lines workers keys out accepted = history M proper k m ab t os accepted (dealt M k m ab t os ops lines workers keys out)
 
 -- ---- what a function that opens a phase and runs the calls has to show
-module _ (k m : ℕ) (ab : Hash) (t : List ℕ) (os : List Order) (ops lines workers keys out : List ℕ) (o : Replied) (is : o ≡ openCall gateway k m ab t os) where
+module _ (M : Model) (proper : Proper M) (k m : ℕ) (ab : Hash) (t : List ℕ) (os : List Order) (ops lines workers keys out : List ℕ) (o : Replied) (is : o ≡ openCall M k m ab t os) where
   abbrev Kept : Replied → List ℕ → List ℕ → Type 0
-  Kept r t′ out′ = Ran gateway k m ab t os ops lines workers keys out r t′ out′ × Promised gateway k m ab t os ops lines workers keys out
+  Kept r t′ out′ = Ran M k m ab t os ops lines workers keys out r t′ out′ × Promised M k m ab t os ops lines workers keys out
 
-  pub accepted-kept : (p : Phase) (t′ out′ : List ℕ) → o .reply ≡ Accepted → RunsFrom gateway os (o .phase) t (callsLent ops lines workers keys out) out p t′ out′
+  pub accepted-kept : (p : Phase) (t′ out′ : List ℕ) → o .reply ≡ Accepted → RunsFrom M os (o .phase) t (callsLent ops lines workers keys out) out p t′ out′
       → Kept (record { phase = p; reply = Accepted }) t′ out′
-  accepted-kept p t′ out′ read h = (accepted-ran gateway k m ab t os ops lines workers keys out o is p t′ out′ read h, promised k m ab t os ops lines workers keys out)
+  accepted-kept p t′ out′ read h = (accepted-ran M k m ab t os ops lines workers keys out o is p t′ out′ read h, promised M proper k m ab t os ops lines workers keys out)
 
   pub refused-kept : (why : Refusal) → o .reply ≡ Refused why → Kept (record { phase = o .phase; reply = Refused why }) t out
-  refused-kept why read = (refused-ran gateway k m ab t os ops lines workers keys out o is why read, promised k m ab t os ops lines workers keys out)
+  refused-kept why read = (refused-ran M k m ab t os ops lines workers keys out o is why read, promised M proper k m ab t os ops lines workers keys out)
 
 pub dealt-promise : DealtPromise
 dealt-promise M k m ab t os ops lines workers keys out =

@@ -21,14 +21,14 @@ use Rattle.rule.specs.Rule.{touched, start}
 use Rattle.rule.specs.declared.Place.{Place}
 use Rattle.rule.specs.declared.Place.the-variants.{Nowhere, At}
 use Rattle.rule.proofs.Suits.{rule-suits}
-use Rattle.state.specs.Model.{Model, Proper, gateway}
+use Rattle.state.specs.Model.{Model, modelOf}
 use Rattle.state.specs.Open.{openCall}
 use Rattle.state.specs.Refusals.{replyNumber}
 use Rattle.state.specs.declared.Phase.{Phase}
-use Rattle.state.proofs.Model.{gateway-proper}
+use Rattle.state.proofs.Model.{proper, fewest-most}
 use Rattle.protocol.specs.Bars.{doing}
 use Rattle.protocol.specs.Calls.{asked, entryFor, withWorker, closeReply, closeCall, foundReply, orderCall, turnCheck, movedAt, turnCall}
-use Rattle.protocol.specs.Promise.{KeepsPromise, opened, ordered, turned, closed, NeverSpoiltPromise, PlacesPromise, GatewayNeverSpoilt, Openings, Framed}
+use Rattle.protocol.specs.Promise.{KeepsPromise, opened, ordered, turned, closed, NeverSpoiltPromise, PlacesPromise, EachNeverSpoilt, Openings, Framed}
 use Rattle.protocol.specs.WellFormed.{Size, Crew, WellFormed}
 use Rattle.protocol.proofs.Chain.{by-reply, none-accepted}
 use Rattle.protocol.proofs.Opening.{resting-formed}
@@ -123,5 +123,5 @@ places M p (turned q h t w) = turns M q t w .others .frame .places ∙ places M 
 places M p (closed q h) = let o = closes M q in
     same-places q _ (replyNumber (closeCall M q .reply)) (λ z. o .accepted z .frame) (o .refused) ∙ places M q h
 
-pub gateway-never-spoilt : GatewayNeverSpoilt
-gateway-never-spoilt = never-spoilt gateway gateway-proper (omega arith) (omega arith)
+pub each-never-spoilt : EachNeverSpoilt
+each-never-spoilt d = never-spoilt (modelOf d) (proper d) (omega arith, fewest-most d .0) (omega arith, fewest-most d .1)

@@ -2,7 +2,7 @@
 use Prim.Native.Nat.{ℕ, _+_, _<_, _≤_}
 use mathlib.Core.Bool.{Bool, true, false, cond}
 use mathlib.Core.List.{List}
-use mathlib.Core.Path.{_≡_, _∙_}
+use mathlib.Core.Path.{_≡_, refl, _∙_}
 use native.Mathlib.Numerals.{add-one}
 use native.Mathlib.Omega.{arith}
 use lib.Dec.{ltb}
@@ -39,33 +39,35 @@ workersOk-from : (k n m i : ℕ) (ws : List Worker) → i < length ws → worker
     ≡ cond (cond (ltb i m) (activityOk k n label (at ws i)) (isIdle (at ws i))) (workersOk k n m (i + 1) (drop (i + 1) ws)) false
 workersOk-from k n m i ws h = rw (add-one, drop-cons ws i idle)
 
--- in a walk over the workers, i of them passed: the phase is well formed if the others are
-pub record Passed (M : Model) (p : Phase) (i : ℕ) : Type 0 where
-  pub some : i ≤ M .room
-  pub all : length (p .workers) ≡ M .room
-  pub others : isWellFormed M p ≡ workersOk (p .kind) (p .length) (p .crew) i (drop i (p .workers))
+-- in a walk over the workers of a phase with so many places, i of them passed: all are as they should be if the others are. This speaks of no model
+pub record Passed (room : ℕ) (p : Phase) (i : ℕ) : Type 0 where
+  pub some : i ≤ room
+  pub all : length (p .workers) ≡ room
+  pub others : workersOk (p .kind) (p .length) (p .crew) 0 (p .workers) ≡ workersOk (p .kind) (p .length) (p .crew) i (drop i (p .workers))
 
-module _ (M : Model) (p : Phase) (i : ℕ) (s : Passed M p i) where
+pub none-passed : (room : ℕ) (p : Phase) → length (p .workers) ≡ room → Passed room p 0
+none-passed room p l = record { some = omega arith; all = l; others = refl }
+
+module _ (room : ℕ) (p : Phase) (i : ℕ) (s : Passed room p i) where
   -- the test of the next worker
   abbrev next : Bool
   next = cond (ltb i (p .crew)) (activityOk (p .kind) (p .length) label (at (p .workers) i)) (isIdle (at (p .workers) i))
 
-  module _ (more : i < M .room) (b : Bool) (told : b ≡ next) where
-    on : isWellFormed M p ≡ cond b (workersOk (p .kind) (p .length) (p .crew) (i + 1) (drop (i + 1) (p .workers))) false
+  module _ (more : i < room) (b : Bool) (told : b ≡ next) where
+    on : workersOk (p .kind) (p .length) (p .crew) 0 (p .workers)
+        ≡ cond b (workersOk (p .kind) (p .length) (p .crew) (i + 1) (drop (i + 1) (p .workers))) false
     on = let h : i < length (p .workers) = omega arith in s .others ∙ workersOk-from (p .kind) (p .length) (p .crew) i (p .workers) h ∙ rw (← told)
 
-    pub fails : b ≡ false → isWellFormed M p ≡ false
-    fails h = on ∙ rw h
-
-    pub passes : b ≡ true → Passed M p (i + 1)
+    pub passes : b ≡ true → Passed room p (i + 1)
     passes h = record { some = omega arith; all = s .all; others = on ∙ rw h }
 
-  pub passed-all : M .room ≤ i → isWellFormed M p ≡ true
-  passed-all h = let e : length (p .workers) ≤ i = omega arith in s .others ∙ rw (drop-of-length-le _ e)
+  -- the model comes in with the numbers
+  module _ (M : Model) (good : numbers M p ≡ true) where
+    pub fails : i < room → (b : Bool) → b ≡ next → b ≡ false → isWellFormed M p ≡ false
+    fails more b told h = by-workers M p good ∙ on more b told ∙ rw h
 
-pub none-passed : (M : Model) (p : Phase) → numbersOk M (p .kind) (p .length) (p .crew) ≡ true → length (p .workers) ≡ M .room
-    → Passed M p 0
-none-passed M p h l = record { some = omega arith; all = l; others = by-workers M p h }
+    pub passed-all : room ≤ i → isWellFormed M p ≡ true
+    passed-all h = let e : length (p .workers) ≤ i = omega arith in by-workers M p good ∙ s .others ∙ rw (drop-of-length-le _ e)
 
 pub allIdle-from : (i : ℕ) (ws : List Worker) → i < length ws → allIdle (drop i ws) ≡ cond (isIdle (at ws i)) (allIdle (drop (i + 1) ws)) false
 allIdle-from i ws h = rw (add-one, drop-cons ws i idle)

@@ -24,9 +24,10 @@ use Rattle.rule.specs.declared.Answer.{Answer}
 use Rattle.rule.specs.declared.Answer.the-variants.{WentOn, Finished, Price, No}
 use Rattle.rule.specs.declared.Answer.the-variants as answer
 use Rattle.rule.specs.declared.Place.the-variants.{At}
-use Rattle.state.specs.Model.{Model, Proper, gateway}
+use Rattle.state.specs.Model.{Model, Proper, modelOf}
 use Rattle.state.specs.Open.{openReply, openCall}
 use Rattle.state.specs.Refusals.{replyNumber}
+use Rattle.state.specs.declared.Device.{Device}
 use Rattle.state.specs.declared.Phase.{Phase}
 use Rattle.protocol.specs.Bars.{doing}
 use Rattle.protocol.specs.Calls.{turnNumber, closeCall, orderCall, turnCall, turnTable}
@@ -72,9 +73,9 @@ NeverSpoiltPromise = (M : Model) → Proper M → Size M 2 → Crew M 1 → (p :
 abbrev pub PlacesPromise : Type 0
 PlacesPromise = (M : Model) (p : Phase) → Made M p → length (p .workers) ≡ M .room
 
--- in the documents' model, with nothing left to assume
-abbrev pub GatewayNeverSpoilt : Type 0
-GatewayNeverSpoilt = (p : Phase) → Made gateway p → WellFormed gateway p
+-- in each of the documents' models, with nothing left to assume
+abbrev pub EachNeverSpoilt : Type 0
+EachNeverSpoilt = (d : Device) (p : Phase) → Made (modelOf d) p → WellFormed (modelOf d) p
 
 -- ---- open
 abbrev pub SoundIn : Model → Hash → List ℕ → Type 0

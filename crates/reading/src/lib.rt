@@ -3,6 +3,7 @@ use orders::Order;
 use parallel::lines_of;
 use splitting::record_at;
 use state::Counted;
+use state::Device;
 use state::Phase;
 use state::Refusal;
 use till::Begun;
@@ -12,7 +13,7 @@ use till::Record;
 ghost use mathlib.Core.Path.{_≡_};
 ghost use lib.ListN.{length};
 ghost use Rattle.orders.specs.Orders.{blank, ordersOf};
-ghost use Rattle.state.specs.Model.{gateway};
+ghost use Rattle.state.specs.Model.{modelOf};
 ghost use Rattle.state.specs.declared.Counted.the-variants as counted;
 ghost use Rattle.till.specs.Places.{recordsOf, dealtAt, begunOf};
 ghost use Rattle.till.specs.Till.{readingOf, following, tillCall, keysAfter, pricesAfter, workersAfter};
@@ -55,10 +56,10 @@ fn refused(why: Refusal) -> Begun
 }
 
 // The answer for a list with so many places, and what there is to write: nothing is written before this is known.
-pub fn begin(text: &[u8], count: u64, places: usize) -> Begun
-    ensures { λ r. ⌜ r ≡ begunOf gateway (now (text .entry)) count places ⌝ }
+pub fn begin(device: Device, text: &[u8], count: u64, places: usize) -> Begun
+    ensures { λ r. ⌜ r ≡ begunOf (modelOf device) (now (text .entry)) count places ⌝ }
 {
-    if !Phase::crew_ok(count as usize) {
+    if !Phase::crew_ok(device, count as usize) {
         return refused(Refusal::Crew);
     }
     let records = count_records(text);
@@ -126,18 +127,19 @@ pub fn dealt_at(text: &[u8], crew: u32, cursor: Cursor) -> Dealt
 
 // Reads a till list into a list of orders that is lent as its keys, its prices and its workers.
 pub fn read_till_parallel(
+    device: Device,
     text: &[u8],
     count: u64,
     keys: &mut [u32],
     prices: &mut [u32],
     workers: &mut [u32],
 ) -> Counted
-    ensures { λ r. ⌜ (r ≡ tillCall gateway (now (text .entry)) count (length (ordersOf (now (keys .entry)) (now (prices .entry)) (now (workers .entry)))))
-        × (now (keys .exit) ≡ keysAfter gateway (now (text .entry)) count (now (keys .entry)) (now (prices .entry)) (now (workers .entry)))
-        × (now (prices .exit) ≡ pricesAfter gateway (now (text .entry)) count (now (keys .entry)) (now (prices .entry)) (now (workers .entry)))
-        × (now (workers .exit) ≡ workersAfter gateway (now (text .entry)) count (now (keys .entry)) (now (prices .entry)) (now (workers .entry))) ⌝ }
+    ensures { λ r. ⌜ (r ≡ tillCall (modelOf device) (now (text .entry)) count (length (ordersOf (now (keys .entry)) (now (prices .entry)) (now (workers .entry)))))
+        × (now (keys .exit) ≡ keysAfter (modelOf device) (now (text .entry)) count (now (keys .entry)) (now (prices .entry)) (now (workers .entry)))
+        × (now (prices .exit) ≡ pricesAfter (modelOf device) (now (text .entry)) count (now (keys .entry)) (now (prices .entry)) (now (workers .entry)))
+        × (now (workers .exit) ≡ workersAfter (modelOf device) (now (text .entry)) count (now (keys .entry)) (now (prices .entry)) (now (workers .entry))) ⌝ }
 {
-    let begun = begin(text, count, lines_of(keys, prices, workers));
+    let begun = begin(device, text, count, lines_of(keys, prices, workers));
     let lines = begun.lines;
     let crew = begun.crew;
     let mut cursor = Cursor { at: 0, worker: 0 };

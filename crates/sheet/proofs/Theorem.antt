@@ -16,13 +16,14 @@ use Rattle.activities.specs.Kinds.{kindOk}
 use Rattle.state.specs.Model.{gateway, sizeOk, crewOk}
 use Rattle.state.specs.Open.{openCall}
 use Rattle.state.specs.Refusals.{replyNumber, if, unless, firstOf}
+use Rattle.state.specs.declared.Device.the-variants.{Gateway}
 use Rattle.state.specs.declared.Refusal.the-variants.{Size, Crew, Kind, Unsound, Shut, LongList, Gap, Disorder, Even}
 use Rattle.state.specs.declared.Reply.the-variants.{Refused}
 use Rattle.state.proofs.Model.{gateway-proper}
 use Rattle.lines.specs.Grammar.{readingOf}
 use Rattle.protocol.specs.IsWellFormed.{isWellFormed}
 use Rattle.protocol.specs.Calls.{closeCall, turnCheck}
-use Rattle.protocol.proofs.Keeping.{gateway-never-spoilt}
+use Rattle.protocol.proofs.Keeping.{each-never-spoilt}
 use Rattle.protocol.proofs.Theorem.{well-formed, opens}
 use Rattle.tables.proofs.Theorem.{theorem as at-rest}
 use Rattle.dealing.proofs.Reached.{passed, crew}
@@ -46,7 +47,7 @@ crew-within s v up =
 -- ---- in a shut shift
 module _ (s : State) (h : ByCalls (s .phase)) (shut : s .phase .shut ≡ true) where
   good : isWellFormed gateway (s .phase) ≡ true
-  good = well-formed gateway (s .phase) .1 (gateway-never-spoilt (s .phase) (h .made))
+  good = well-formed gateway (s .phase) .1 (each-never-spoilt Gateway (s .phase) (h .made))
 
   shut-turn : (w : ℕ) → w ≤ greatest → Does s (line "turn" (w ∷ [])) s (refusedText 11)
   shut-turn w a =

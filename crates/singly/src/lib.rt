@@ -6,13 +6,14 @@ use parallel::least;
 use parallel::line_of;
 use protocol::TurnReply;
 use rule::Answer;
+use state::Device;
 use state::Phase;
 use state::Refusal;
 use state::Reply;
 ghost use mathlib.Core.Path.{_≡_};
 ghost use Prim.Native.Nat.{min};
 ghost use Rattle.orders.specs.Orders.{ordersOf};
-ghost use Rattle.state.specs.Model.{gateway};
+ghost use Rattle.state.specs.Model.{modelOf};
 ghost use Rattle.numbered.specs.Numbers.{refusalAnswer, stepAnswer, turnAnswer, replyAnswer};
 ghost use Rattle.numbered.specs.Lists.{callsLent, RunsFrom};
 
@@ -70,6 +71,7 @@ pub fn fewest(ops: usize, lines: usize, workers: usize, keys: usize, answers: us
 // Operation 1 is an order, 2 a turn, any other a close; the list of orders is lent to each order. Each call goes by itself: the phase by value, and
 // tested at each.
 pub fn run_singly(
+    device: Device,
     phase: Phase,
     cells: &mut [u64],
     order_keys: &[u32],
@@ -81,7 +83,7 @@ pub fn run_singly(
     keys: &[u32],
     answers: &mut [u64],
 ) -> Phase
-    ensures { λ r. ⌜ RunsFrom gateway (ordersOf (now («order_keys» .entry)) (now («order_prices» .entry)) (now («order_workers» .entry))) phase (now (cells .entry))
+    ensures { λ r. ⌜ RunsFrom (modelOf device) (ordersOf (now («order_keys» .entry)) (now («order_prices» .entry)) (now («order_workers» .entry))) phase (now (cells .entry))
         (callsLent (now (ops .entry)) (now (lines .entry)) (now (workers .entry)) (now (keys .entry)) (now (answers .entry)))
         (now (answers .entry)) r (now (cells .exit)) (now (answers .exit)) ⌝ }
 {
@@ -103,17 +105,17 @@ pub fn run_singly(
         i += 1;
         if op == 1 {
             let found = line_of(order_keys, order_prices, order_workers, line);
-            let ordered = order_found(next, found, worker, key);
+            let ordered = order_found(device, next, found, worker, key);
             next = ordered.phase;
             let reply = ordered.reply;
             answers[place] = reply_answer(reply);
         } else if op == 2 {
-            let turned = turn(next, cells, worker);
+            let turned = turn(device, next, cells, worker);
             next = turned.phase;
             let reply = turned.reply;
             answers[place] = turn_answer(reply);
         } else {
-            let closed = close(next);
+            let closed = close(device, next);
             next = closed.phase;
             let reply = closed.reply;
             answers[place] = reply_answer(reply);

@@ -18,7 +18,7 @@ ghost use lib.Dec.{ltb, eqb};
 ghost use lib.ListN.{length};
 ghost use Rattle.orders.specs.Orders.{ordersOf};
 ghost use Rattle.activities.specs.Kinds.{kindOk};
-ghost use Rattle.state.specs.Model.{gateway, sizeOk, crewOk};
+ghost use Rattle.state.specs.Model.{gateway, modelOf, sizeOk, crewOk};
 ghost use Rattle.state.specs.Open.{fresh, refusedPhase, soundBars, tableBars, opened, openCall};
 ghost use Rattle.state.specs.Refusals.{numberOf, firstOf};
 ghost use Rattle.state.specs.Stages.{readsList, earlyBars, lateBars};
@@ -93,7 +93,13 @@ pub enum Counted {
     Refused(Refusal),
 }
 
-// The state of a phase. Its hash function, by which the homes of keys are computed, is that of the opening.
+// The models of the gateway. Each call is told for which of them it is made: they differ in their limits alone.
+pub enum Device {
+    Gateway,
+    Kiosk,
+}
+
+// The state of a phase, in either model. Its hash function, by which the homes of keys are computed, is that of the opening.
 pub struct Phase {
     pub kind: u32,
     pub length: u32,
@@ -110,39 +116,64 @@ pub struct Replied {
 }
 
 impl Phase {
+    // The limits that both models have, and then the most cells and workers of each.
     pub const FEWEST_CELLS: usize = 2;
 
-    pub const MOST_CELLS: usize = 8192;
-
     pub const FEWEST_WORKERS: usize = 1;
-
-    pub const MOST_WORKERS: usize = 16;
 
     // The most lines of the list that an insert phase is opened with.
     pub const MOST_LINES: usize = 65536;
 
+    pub const GATEWAY_CELLS: usize = 8192;
+
+    pub const GATEWAY_WORKERS: usize = 16;
+
+    pub const KIOSK_CELLS: usize = 256;
+
+    pub const KIOSK_WORKERS: usize = 4;
+
     // The places for workers in a phase.
-    pub const ROOM: usize = Self::MOST_WORKERS;
+    pub const ROOM: usize = Self::GATEWAY_WORKERS;
+
+    // The most cells of a table.
+    fn most_cells(device: Device) -> usize
+        ensures { λ r. ⌜ r ≡ modelOf device .mostCells ⌝ }
+    {
+        match device {
+            Device::Gateway => Self::GATEWAY_CELLS,
+            Device::Kiosk => Self::KIOSK_CELLS,
+        }
+    }
+
+    // The most workers of a phase.
+    fn most_workers(device: Device) -> usize
+        ensures { λ r. ⌜ r ≡ modelOf device .mostWorkers ⌝ }
+    {
+        match device {
+            Device::Gateway => Self::GATEWAY_WORKERS,
+            Device::Kiosk => Self::KIOSK_WORKERS,
+        }
+    }
 
     // Whether a table may have `length` cells.
-    pub fn size_ok(length: usize) -> bool
-        ensures { λ r. ⌜ r ≡ sizeOk gateway length ⌝ }
+    pub fn size_ok(device: Device, length: usize) -> bool
+        ensures { λ r. ⌜ r ≡ sizeOk (modelOf device) length ⌝ }
     {
         if length < Self::FEWEST_CELLS {
             false
         } else {
-            length <= Self::MOST_CELLS
+            length <= Self::most_cells(device)
         }
     }
 
     // Whether a phase may have `crew` workers.
-    pub fn crew_ok(crew: usize) -> bool
-        ensures { λ r. ⌜ r ≡ crewOk gateway crew ⌝ }
+    pub fn crew_ok(device: Device, crew: usize) -> bool
+        ensures { λ r. ⌜ r ≡ crewOk (modelOf device) crew ⌝ }
     {
         if crew < Self::FEWEST_WORKERS {
             false
         } else {
-            crew <= Self::MOST_WORKERS
+            crew <= Self::most_workers(device)
         }
     }
 
@@ -153,7 +184,7 @@ impl Phase {
         if kind < 1 { false } else { kind <= 3 }
     }
 
-    // A phase with all workers idle.
+    // A phase with all workers idle. This and whatever else reads no limit in which the models differ is the same in each, and told of the gateway.
     fn fresh(kind: u32, length: u32, crew: u32, shut: bool, hash: Hash) -> Phase
         ensures { λ r. ⌜ r ≡ fresh gateway kind length crew shut hash ⌝ }
     {
@@ -205,10 +236,10 @@ impl Phase {
     }
 
     // Whether a table may have its length and its hash function, and is sound or, if it is not, why.
-    pub fn check(hash: Hash, cells: &[u64]) -> Reply
-        ensures { λ r. ⌜ r ≡ firstOf (tableBars gateway hash (now (cells .entry))) ⌝ }
+    pub fn check(device: Device, hash: Hash, cells: &[u64]) -> Reply
+        ensures { λ r. ⌜ r ≡ firstOf (tableBars (modelOf device) hash (now (cells .entry))) ⌝ }
     {
-        if !Self::size_ok(cells.len()) {
+        if !Self::size_ok(device, cells.len()) {
             return Reply::Refused(Refusal::Size);
         }
         if is_even(hash) {
@@ -218,16 +249,23 @@ impl Phase {
     }
 
     // Whether the opening goes on to the list: of an insert phase, that nothing is refused before.
-    fn reads_list(kind: u64, crew: u64, hash: Hash, cells: &[u64], lines: usize) -> bool
-        ensures { λ r. ⌜ r ≡ readsList gateway kind crew hash (now (cells .entry)) lines ⌝ }
+    fn reads_list(
+        device: Device,
+        kind: u64,
+        crew: u64,
+        hash: Hash,
+        cells: &[u64],
+        lines: usize,
+    ) -> bool
+        ensures { λ r. ⌜ r ≡ readsList (modelOf device) kind crew hash (now (cells .entry)) lines ⌝ }
     {
         if kind != 1 {
             return false;
         }
-        if !Self::size_ok(cells.len()) {
+        if !Self::size_ok(device, cells.len()) {
             return false;
         }
-        if !Self::crew_ok(crew as usize) {
+        if !Self::crew_ok(device, crew as usize) {
             return false;
         }
         if is_even(hash) {
@@ -244,13 +282,20 @@ impl Phase {
     }
 
     // The opening where it does not go on to the list.
-    fn opened_early(kind: u64, crew: u64, hash: Hash, cells: &[u64], lines: usize) -> Replied
-        ensures { λ r. ⌜ r ≡ opened gateway kind crew hash (now (cells .entry)) (firstOf (earlyBars gateway kind crew hash (now (cells .entry)) lines)) ⌝ }
+    fn opened_early(
+        device: Device,
+        kind: u64,
+        crew: u64,
+        hash: Hash,
+        cells: &[u64],
+        lines: usize,
+    ) -> Replied
+        ensures { λ r. ⌜ r ≡ opened (modelOf device) kind crew hash (now (cells .entry)) (firstOf (earlyBars (modelOf device) kind crew hash (now (cells .entry)) lines)) ⌝ }
     {
-        if !Self::size_ok(cells.len()) {
+        if !Self::size_ok(device, cells.len()) {
             return Self::refused(Refusal::Size);
         }
-        if !Self::crew_ok(crew as usize) {
+        if !Self::crew_ok(device, crew as usize) {
             return Self::refused(Refusal::Crew);
         }
         if !Self::kind_ok(kind) {
@@ -295,22 +340,30 @@ impl Phase {
         }
     }
 
-    // Opens a phase of a kind, with a crew of so many workers and a hash function, on a table; an insert phase with a list of orders, which the other
+    // Opens a phase of a model and a kind, with a crew of so many workers and a hash function, on a table; an insert phase with a list of orders, which the other
     // kinds do not read.
-    pub fn open(kind: u64, crew: u64, hash: Hash, cells: &[u64], orders: &[Order]) -> Replied
-        ensures { λ r. ⌜ r ≡ openCall gateway kind crew hash (now (cells .entry)) (now (orders .entry)) ⌝ }
+    pub fn open(
+        device: Device,
+        kind: u64,
+        crew: u64,
+        hash: Hash,
+        cells: &[u64],
+        orders: &[Order],
+    ) -> Replied
+        ensures { λ r. ⌜ r ≡ openCall (modelOf device) kind crew hash (now (cells .entry)) (now (orders .entry)) ⌝ }
     {
         let lines = orders.len();
-        if Self::reads_list(kind, crew, hash, cells, lines) {
+        if Self::reads_list(device, kind, crew, hash, cells, lines) {
             let fault = lines_fault(orders, crew as u32);
             let full = lines_crowded(cells, orders);
             return Self::opened_late(crew, hash, cells, fault, full);
         }
-        Self::opened_early(kind, crew, hash, cells, lines)
+        Self::opened_early(device, kind, crew, hash, cells, lines)
     }
 
     // The same with the list in three parallel slices: as many lines as the shortest has.
     pub fn open_parallel(
+        device: Device,
         kind: u64,
         crew: u64,
         hash: Hash,
@@ -319,14 +372,14 @@ impl Phase {
         prices: &[u32],
         workers: &[u32],
     ) -> Replied
-        ensures { λ r. ⌜ r ≡ openCall gateway kind crew hash (now (cells .entry)) (ordersOf (now (keys .entry)) (now (prices .entry)) (now (workers .entry))) ⌝ }
+        ensures { λ r. ⌜ r ≡ openCall (modelOf device) kind crew hash (now (cells .entry)) (ordersOf (now (keys .entry)) (now (prices .entry)) (now (workers .entry))) ⌝ }
     {
         let lines = lines_of(keys, prices, workers);
-        if Self::reads_list(kind, crew, hash, cells, lines) {
+        if Self::reads_list(device, kind, crew, hash, cells, lines) {
             let fault = fault_of(keys, prices, workers, crew as u32);
             let full = crowded(cells, &keys[..lines]);
             return Self::opened_late(crew, hash, cells, fault, full);
         }
-        Self::opened_early(kind, crew, hash, cells, lines)
+        Self::opened_early(device, kind, crew, hash, cells, lines)
     }
 }

@@ -4,6 +4,7 @@
 use std::collections::BTreeSet;
 
 use crate::layout::{label_of, layout, way_length, Homes, Prices, EMPTY};
+use crate::model::GATEWAY;
 use crate::phase::{Activity, Order, Phase, LOOK_UP, PUT_IN, TAKE_OUT};
 
 pub const CELLS: usize = 1025;
@@ -72,14 +73,20 @@ pub enum Step {
 /// A whole shift: each worker gets an order, then they have turns round and
 /// round until all are idle, then each gets the next. Gives what was done.
 pub fn shift(kind: u32, homes: Homes, table: &mut [u64], orders: &[Order]) -> Vec<Step> {
-    let mut phase = Phase::open(kind.into(), WORKERS as u64, homes, table, orders)
+    let mut phase = Phase::open(GATEWAY, kind.into(), WORKERS as u64, homes, table, orders)
         .expect("a sound table with room");
     let mut steps = Vec::new();
     for (round, given) in orders.chunks(WORKERS).enumerate() {
         for (i, order) in given.iter().enumerate() {
             let line = round * WORKERS + i;
             phase
-                .order(orders, line as u64, order.worker.into(), order.label)
+                .order(
+                    GATEWAY,
+                    orders,
+                    line as u64,
+                    order.worker.into(),
+                    order.label,
+                )
                 .expect("an idle worker");
             steps.push(Step::Order(line));
         }
@@ -87,13 +94,13 @@ pub fn shift(kind: u32, homes: Homes, table: &mut [u64], orders: &[Order]) -> Ve
             assert!(steps.len() < 10_000_000, "the shift doesn't end");
             for worker in 0..WORKERS {
                 if phase.workers[worker] != Activity::Idle {
-                    phase.turn(table, worker as u64).expect("a turn");
+                    phase.turn(GATEWAY, table, worker as u64).expect("a turn");
                     steps.push(Step::Turn(worker));
                 }
             }
         }
     }
-    phase.close().expect("nobody works");
+    phase.close(GATEWAY).expect("nobody works");
     steps
 }
 

@@ -23,7 +23,7 @@ returns : tie.Need-returns
 returns c =
     let b = c .before .before .before .before .before .before .before .before in
     let r = c .before .before .before .before .turn in
-    turns (b .pre) (b .args .worker) _ _ _ (r .ensures) (r .kept .1 .0) (c .tell .ensures)
+    turns (b .pre) (b .args .worker) _ _ _ (r .ensures) (r .kept .1 .1 .0) (c .tell .ensures)
 
 pub take-turn-spec : {M : Type 1} → statement M
 take-turn-spec =

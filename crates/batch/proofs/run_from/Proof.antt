@@ -35,7 +35,10 @@ returns-2 : tie.Need-returns-2
 returns-2 c = search needs
 
 run-tested-requires : tie.Need-run-tested-requires
-run-tested-requires c κs = (sym (c .before .before .before .is-well-formed .ensures) ∙ not-false _ (c .before .before .if2 .left), c .before .before .before .before .if1 .left)
+run-tested-requires c κs =
+    let f = c .before .before .before in
+    let a = f .before .before .before .before .before .before .before .before .before .before .before .before .args in
+    ((a .device, sym (f .is-well-formed .ensures) ∙ not-false _ (c .before .before .if2 .left)), f .before .if1 .left)
 
 same-length-5 : tie.Need-same-length-5
 same-length-5 c = search needs
@@ -44,7 +47,10 @@ same-length-6 : tie.Need-same-length-6
 same-length-6 c = search needs
 
 returns-3 : tie.Need-returns-3
-returns-3 c = search needs
+returns-3 c =
+    let f = c .before .before .before .before in
+    let a = f .before .before .before .before .before .before .before .before .before .before .before .before .before .before .before .before .args in
+    f .run-tested .ensures (a .device) (sym (f .before .before .before .before .is-well-formed .ensures) ∙ not-false _ (f .before .before .before .if2 .left))
 
 pub run-from-spec : {M : Type 1} → statement M
 run-from-spec =

@@ -1,12 +1,13 @@
--- The loop's invariant: the phase is well formed if the workers not yet passed are.
+-- The loop's invariant: the workers are as they should be if those not yet passed are.
 use Prim.Native.Nat.{_-_}
 use mathlib.Core.Path.{sym, _∙_, ap}
 use native.Mathlib.Omega.{arith}
 use borrow.Author.Needs.{needs}
 use borrow.Author.Tests.{not-true, not-false, le-leb}
 use lib.ListN.{length-map}
-use Rattle.state.specs.Model.{gateway}
+use Rattle.state.specs.Model.{gateway, modelOf}
 use Rattle.state.specs.declared.Refusal.the-variants.{NoWorker, Shut, Spoilt, NoLine}
+use Rattle.state.proofs.Model.{most-workers}
 use Rattle.protocol.proofs.Ordering.{with-given}
 use Rattle.protocol.proofs.WellFormed.{well-formed-says}
 use Rattle.protocol.proofs.Walk.{ill-by-numbers, Passed, none-passed, fails, passes, passed-all}
@@ -15,7 +16,7 @@ use Rattle.calls.proofs.order_found.Statement.{statement}
 use Rattle.calls.proofs.order_found.Tie as tie
 
 abbrev Inv-loop : tie.InvT-loop
-Inv-loop found worker key p i₀ i = Passed gateway p i
+Inv-loop found worker key p i₀ i = Passed (gateway .room) p i
 
 abbrev μ-loop : tie.MeasureT-loop
 μ-loop found worker key p i₀ i = 16 - i
@@ -29,13 +30,13 @@ refused-requires c κs = search needs
 returns : tie.Need-returns Inv-loop μ-loop
 returns c =
     let a = c .before .before .before .args in
-    found-refused gateway (a .t1) (a .found) (a .worker) (a .key) _ Spoilt (c .refused .ensures)
-    (simp (ill-by-numbers gateway (a .t1) (sym (c .before .before .numbers-ok .ensures) ∙ not-true _ (c .before .if1 .taken))))
+    found-refused (modelOf (a .device)) (a .t2) (a .found) (a .worker) (a .key) _ Spoilt (c .refused .ensures)
+    (simp (ill-by-numbers (modelOf (a .device)) (a .t2) (sym (c .before .before .numbers-ok .ensures) ∙ not-true _ (c .before .if1 .taken))))
 
 loop-holds : tie.Need-loop-holds Inv-loop μ-loop
 loop-holds c =
-    let array = c .before .before .good .0 .1 .1 .1 .1 .1 .1 .1 .0 .1 .0 .1 in
-    none-passed _ _ (sym (c .before .numbers-ok .ensures) ∙ not-false _ (c .if1 .left)) (simp length-map at array)
+    let array = c .before .before .good .1 .0 .1 .1 .1 .1 .1 .1 .1 .0 .1 .0 .1 in
+    none-passed _ _ (simp length-map at array)
 
 mul-w : tie.Need-mul-w Inv-loop μ-loop
 mul-w c = omega arith
@@ -56,8 +57,9 @@ returns-2 : tie.Need-returns-2 Inv-loop μ-loop
 returns-2 c =
     let b = c .before .before .before .before .before in
     let a = b .before .before .before .args in
-    found-refused gateway (a .t1) (a .found) (a .worker) (a .key) _ Spoilt (c .refused2 .ensures)
-    (simp (fails gateway (a .t1) _ (b .loop .inv) (c .before .before .before .before .loop-test .taken) _
+    found-refused (modelOf (a .device)) (a .t2) (a .found) (a .worker) (a .key) _ Spoilt (c .refused2 .ensures)
+    (simp (fails _ _ _ (b .loop .inv)
+    (modelOf (a .device)) (sym (b .before .before .numbers-ok .ensures) ∙ not-false _ (b .before .if1 .left)) (c .before .before .before .before .loop-test .taken) _
     (c .before .before .worker-ok .ensures) (not-true _ (c .before .if2 .taken))))
 
 add-i : tie.Need-add-i Inv-loop μ-loop
@@ -75,8 +77,12 @@ refused-requires-3 c κs = search needs
 returns-3 : tie.Need-returns-3 Inv-loop μ-loop
 returns-3 c =
     let a = c .before .before .before .before .before .before .args in
-    found-refused gateway (a .t1) (a .found) (a .worker) (a .key) _ Shut (c .refused3 .ensures)
-    (simp (passed-all _ _ _ (c .before .before .before .loop .inv) (c .before .before .loop-test .left), c .before .if3 .taken))
+    found-refused (modelOf (a .device)) (a .t2) (a .found) (a .worker) (a .key) _ Shut (c .refused3 .ensures)
+    (simp (
+      passed-all _ _ _ (c .before .before .before .loop .inv)
+          (modelOf (a .device)) (sym (c .before .before .before .before .before .numbers-ok .ensures) ∙ not-false _ (c .before .before .before .before .if1 .left)) (c .before .before .loop-test .left),
+      c .before .if3 .taken,
+    ))
 
 asked-for-requires : tie.Need-asked-for-requires Inv-loop μ-loop
 asked-for-requires c κs = search needs
@@ -88,8 +94,13 @@ returns-4 : tie.Need-returns-4 Inv-loop μ-loop
 returns-4 c =
     let d = c .before .before .before in
     let a = d .before .before .before .before .before .args in
-    asked-refused gateway (a .t1) (a .found) (a .worker) (a .key) _ (c .before .before .asked-for .ensures) _ NoLine (c .refused4 .ensures)
-    (simp (passed-all _ _ _ (d .before .before .loop .inv) (d .before .loop-test .left), d .if3 .left, c .before .if4 .taken))
+    asked-refused (modelOf (a .device)) (a .t2) (a .found) (a .worker) (a .key) _ (c .before .before .asked-for .ensures) _ NoLine (c .refused4 .ensures)
+    (simp (
+      passed-all _ _ _ (d .before .before .loop .inv)
+          (modelOf (a .device)) (sym (d .before .before .before .before .numbers-ok .ensures) ∙ not-false _ (d .before .before .before .if1 .left)) (d .before .loop-test .left),
+      d .if3 .left,
+      c .before .if4 .taken,
+    ))
 
 cast-if5 : tie.Need-cast-if5 Inv-loop μ-loop
 cast-if5 c = search needs
@@ -101,9 +112,10 @@ returns-5 : tie.Need-returns-5 Inv-loop μ-loop
 returns-5 c =
     let d = c .before .before .before .before in
     let a = d .before .before .before .before .before .args in
-    asked-refused gateway (a .t1) (a .found) (a .worker) (a .key) _ (c .before .before .before .asked-for .ensures) _ NoWorker (c .refused5 .ensures)
+    asked-refused (modelOf (a .device)) (a .t2) (a .found) (a .worker) (a .key) _ (c .before .before .before .asked-for .ensures) _ NoWorker (c .refused5 .ensures)
     (simp (
-      passed-all _ _ _ (d .before .before .loop .inv) (d .before .loop-test .left),
+      passed-all _ _ _ (d .before .before .loop .inv)
+          (modelOf (a .device)) (sym (d .before .before .before .before .numbers-ok .ensures) ∙ not-false _ (d .before .before .before .if1 .left)) (d .before .loop-test .left),
       d .if3 .left,
       c .before .before .if4 .left,
       le-leb _ _ (c .before .if5 .taken),
@@ -116,13 +128,15 @@ element-copy-out-one-order : tie.Need-element-copy-out-one-order Inv-loop μ-loo
 element-copy-out-one-order c =
     let d = c .before .before .before .before in
     let a = d .before .before .before .before .before .args in
-    let w = well-formed-says gateway (a .t1) .0 (passed-all _ _ _ (d .before .before .loop .inv) (d .before .loop-test .left)) in omega arith
+    let w = well-formed-says (modelOf (a .device)) (a .t2) .0 (passed-all _ _ _ (d .before .before .loop .inv)
+    (modelOf (a .device)) (sym (d .before .before .before .before .numbers-ok .ensures) ∙ not-false _ (d .before .before .before .if1 .left)) (d .before .loop-test .left)) in omega (arith, most-workers (a .device))
 
 one-order-requires : tie.Need-one-order-requires Inv-loop μ-loop
 one-order-requires c κs =
     let d = c .before .before .before .before .before in
     let a = d .before .before .before .before .before .args in
-    let w = well-formed-says gateway (a .t1) .0 (passed-all _ _ _ (d .before .before .loop .inv) (d .before .loop-test .left)) in omega arith
+    let w = well-formed-says (modelOf (a .device)) (a .t2) .0 (passed-all _ _ _ (d .before .before .loop .inv)
+    (modelOf (a .device)) (sym (d .before .before .before .before .numbers-ok .ensures) ∙ not-false _ (d .before .before .before .if1 .left)) (d .before .loop-test .left)) in omega (arith, most-workers (a .device))
 
 mul-next : tie.Need-mul-next Inv-loop μ-loop
 mul-next c = search needs
@@ -131,16 +145,18 @@ element-set-from-next : tie.Need-element-set-from-next Inv-loop μ-loop
 element-set-from-next c =
     let d = c .before .before .before .before .before .before .before in
     let a = d .before .before .before .before .before .args in
-    let w = well-formed-says gateway (a .t1) .0 (passed-all _ _ _ (d .before .before .loop .inv) (d .before .loop-test .left)) in omega arith
+    let w = well-formed-says (modelOf (a .device)) (a .t2) .0 (passed-all _ _ _ (d .before .before .loop .inv)
+    (modelOf (a .device)) (sym (d .before .before .before .before .numbers-ok .ensures) ∙ not-false _ (d .before .before .before .if1 .left)) (d .before .loop-test .left)) in omega (arith, most-workers (a .device))
 
 returns-6 : tie.Need-returns-6 Inv-loop μ-loop
 returns-6 c =
     let e = c .before .before .before .before .before .before in
     let d = e .before in
     let a = d .before .before .before .before .before .args in
-    ap (with-given (a .t1) (e .asked-for .result .worker)) (c .before .one-order .ensures)
-    ∙ asked-by-one gateway (a .t1) (a .found) (a .worker) (a .key) _ (e .asked-for .ensures)
-    (passed-all _ _ _ (d .before .before .loop .inv) (d .before .loop-test .left)) (d .if3 .left) (c .before .before .before .before .before .if4 .left)
+    ap (with-given (a .t2) (e .asked-for .result .worker)) (c .before .one-order .ensures)
+    ∙ asked-by-one (modelOf (a .device)) (a .t2) (a .found) (a .worker) (a .key) _ (e .asked-for .ensures)
+    (passed-all _ _ _ (d .before .before .loop .inv)
+    (modelOf (a .device)) (sym (d .before .before .before .before .numbers-ok .ensures) ∙ not-false _ (d .before .before .before .if1 .left)) (d .before .loop-test .left)) (d .if3 .left) (c .before .before .before .before .before .if4 .left)
     (c .before .before .before .before .if5 .left)
 
 pub order-found-spec : {M : Type 1} → statement M

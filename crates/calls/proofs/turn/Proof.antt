@@ -1,12 +1,13 @@
--- The loop's invariant: the phase is well formed if the workers not yet passed are.
+-- The loop's invariant: the workers are as they should be if those not yet passed are.
 use Prim.Native.Nat.{_-_}
 use mathlib.Core.Path.{sym, _∙_, ap}
 use native.Mathlib.Omega.{arith}
 use borrow.Author.Needs.{needs}
 use borrow.Author.Tests.{not-true, not-false, eq-eqb, ne-eqb, le-leb}
 use lib.ListN.{length-map}
-use Rattle.state.specs.Model.{gateway}
+use Rattle.state.specs.Model.{gateway, modelOf}
 use Rattle.state.specs.declared.Refusal.the-variants.{OtherTable, NoWorker, Shut, Spoilt}
+use Rattle.state.proofs.Model.{most-workers}
 use Rattle.protocol.proofs.Turning.{with-moved, turn-refused, turn-by-one}
 use Rattle.protocol.proofs.WellFormed.{good-worker, well-formed-says}
 use Rattle.protocol.proofs.Walk.{ill-by-numbers, Passed, none-passed, fails, passes, passed-all}
@@ -14,7 +15,7 @@ use Rattle.calls.proofs.turn.Statement.{statement}
 use Rattle.calls.proofs.turn.Tie as tie
 
 abbrev Inv-loop : tie.InvT-loop
-Inv-loop cells worker p i₀ i = Passed gateway p i
+Inv-loop cells worker p i₀ i = Passed (gateway .room) p i
 
 abbrev μ-loop : tie.MeasureT-loop
 μ-loop cells worker p i₀ i = 16 - i
@@ -28,13 +29,13 @@ turn-refused-requires c κs = search needs
 returns : tie.Need-returns Inv-loop μ-loop
 returns c =
     let a = c .before .before .before .before .args in
-    turn-refused gateway (a .t1) (a .cells .now) (a .worker) _ Spoilt (c .turn-refused .ensures)
-    (simp (ill-by-numbers gateway (a .t1) (sym (c .before .before .numbers-ok .ensures) ∙ not-true _ (c .before .if1 .taken))))
+    turn-refused (modelOf (a .device)) (a .t2) (a .cells .now) (a .worker) _ Spoilt (c .turn-refused .ensures)
+    (simp (ill-by-numbers (modelOf (a .device)) (a .t2) (sym (c .before .before .numbers-ok .ensures) ∙ not-true _ (c .before .if1 .taken))))
 
 loop-holds : tie.Need-loop-holds Inv-loop μ-loop
 loop-holds c =
-    let array = c .before .before .before .good .0 .1 .1 .1 .1 .1 .1 .1 .0 .1 .0 .1 in
-    none-passed _ _ (sym (c .before .numbers-ok .ensures) ∙ not-false _ (c .if1 .left)) (simp length-map at array)
+    let array = c .before .before .before .good .1 .0 .1 .1 .1 .1 .1 .1 .1 .0 .1 .0 .1 in
+    none-passed _ _ (simp length-map at array)
 
 mul-w : tie.Need-mul-w Inv-loop μ-loop
 mul-w c = omega arith
@@ -55,8 +56,9 @@ returns-2 : tie.Need-returns-2 Inv-loop μ-loop
 returns-2 c =
     let b = c .before .before .before .before .before in
     let a = b .before .before .before .before .args in
-    turn-refused gateway (a .t1) (a .cells .now) (a .worker) _ Spoilt (c .turn-refused2 .ensures)
-    (simp (fails gateway (a .t1) _ (b .loop .inv) (c .before .before .before .before .loop-test .taken) _ (c .before .before .worker-ok .ensures) (not-true _ (c .before .if2 .taken))))
+    turn-refused (modelOf (a .device)) (a .t2) (a .cells .now) (a .worker) _ Spoilt (c .turn-refused2 .ensures)
+    (simp (fails _ _ _ (b .loop .inv)
+    (modelOf (a .device)) (sym (b .before .before .numbers-ok .ensures) ∙ not-false _ (b .before .if1 .left)) (c .before .before .before .before .loop-test .taken) _ (c .before .before .worker-ok .ensures) (not-true _ (c .before .if2 .taken))))
 
 add-i : tie.Need-add-i Inv-loop μ-loop
 add-i c = omega arith
@@ -73,8 +75,12 @@ turn-refused-requires-3 c κs = search needs
 returns-3 : tie.Need-returns-3 Inv-loop μ-loop
 returns-3 c =
     let a = c .before .before .before .before .before .before .before .args in
-    turn-refused gateway (a .t1) (a .cells .now) (a .worker) _ Shut (c .turn-refused3 .ensures)
-    (simp (passed-all _ _ _ (c .before .before .before .loop .inv) (c .before .before .loop-test .left), c .before .if3 .taken))
+    turn-refused (modelOf (a .device)) (a .t2) (a .cells .now) (a .worker) _ Shut (c .turn-refused3 .ensures)
+    (simp (
+      passed-all _ _ _ (c .before .before .before .loop .inv)
+          (modelOf (a .device)) (sym (c .before .before .before .before .before .numbers-ok .ensures) ∙ not-false _ (c .before .before .before .before .if1 .left)) (c .before .before .loop-test .left),
+      c .before .if3 .taken,
+    ))
 
 cast-if4 : tie.Need-cast-if4 Inv-loop μ-loop
 cast-if4 c = search needs
@@ -85,8 +91,13 @@ turn-refused-requires-4 c κs = search needs
 returns-4 : tie.Need-returns-4 Inv-loop μ-loop
 returns-4 c =
     let a = c .before .before .before .before .before .before .before .before .args in
-    turn-refused gateway (a .t1) (a .cells .now) (a .worker) _ OtherTable (c .turn-refused4 .ensures)
-    (simp (passed-all _ _ _ (c .before .before .before .before .loop .inv) (c .before .before .before .loop-test .left), c .before .before .if3 .left, ne-eqb _ _ (c .before .if4 .taken)))
+    turn-refused (modelOf (a .device)) (a .t2) (a .cells .now) (a .worker) _ OtherTable (c .turn-refused4 .ensures)
+    (simp (
+      passed-all _ _ _ (c .before .before .before .before .loop .inv)
+          (modelOf (a .device)) (sym (c .before .before .before .before .before .before .numbers-ok .ensures) ∙ not-false _ (c .before .before .before .before .before .if1 .left)) (c .before .before .before .loop-test .left),
+      c .before .before .if3 .left,
+      ne-eqb _ _ (c .before .if4 .taken),
+    ))
 
 cast-if5 : tie.Need-cast-if5 Inv-loop μ-loop
 cast-if5 c = search needs
@@ -97,9 +108,10 @@ turn-refused-requires-5 c κs = search needs
 returns-5 : tie.Need-returns-5 Inv-loop μ-loop
 returns-5 c =
     let a = c .before .before .before .before .before .before .before .before .before .args in
-    turn-refused gateway (a .t1) (a .cells .now) (a .worker) _ NoWorker (c .turn-refused5 .ensures)
+    turn-refused (modelOf (a .device)) (a .t2) (a .cells .now) (a .worker) _ NoWorker (c .turn-refused5 .ensures)
     (simp (
-      passed-all _ _ _ (c .before .before .before .before .before .loop .inv) (c .before .before .before .before .loop-test .left),
+      passed-all _ _ _ (c .before .before .before .before .before .loop .inv)
+          (modelOf (a .device)) (sym (c .before .before .before .before .before .before .before .numbers-ok .ensures) ∙ not-false _ (c .before .before .before .before .before .before .if1 .left)) (c .before .before .before .before .loop-test .left),
       c .before .before .before .if3 .left,
       eq-eqb _ _ (c .before .before .if4 .left),
       le-leb _ _ (c .before .if5 .taken),
@@ -112,13 +124,15 @@ element-copy-out-one-turn : tie.Need-element-copy-out-one-turn Inv-loop μ-loop
 element-copy-out-one-turn c =
     let d = c .before .before in
     let a = d .before .before .before .before .before .before .before .before .args in
-    let w = well-formed-says gateway (a .t1) .0 (passed-all _ _ _ (d .before .before .before .before .loop .inv) (d .before .before .before .loop-test .left)) in omega arith
+    let w = well-formed-says (modelOf (a .device)) (a .t2) .0 (passed-all _ _ _ (d .before .before .before .before .loop .inv)
+    (modelOf (a .device)) (sym (d .before .before .before .before .before .before .numbers-ok .ensures) ∙ not-false _ (d .before .before .before .before .before .if1 .left)) (d .before .before .before .loop-test .left)) in omega (arith, most-workers (a .device))
 
 one-turn-requires : tie.Need-one-turn-requires Inv-loop μ-loop
 one-turn-requires c κs =
     let d = c .before .before .before in
     let a = d .before .before .before .before .before .before .before .before .args in (
-      good-worker gateway (a .t1) (passed-all _ _ _ (d .before .before .before .before .loop .inv) (d .before .before .before .loop-test .left)) (a .worker) (d .if5 .left),
+      good-worker (modelOf (a .device)) (a .t2) (passed-all _ _ _ (d .before .before .before .before .loop .inv)
+          (modelOf (a .device)) (sym (d .before .before .before .before .before .before .numbers-ok .ensures) ∙ not-false _ (d .before .before .before .before .before .if1 .left)) (d .before .before .before .loop-test .left)) (a .worker) (d .if5 .left),
       d .before .if4 .left,
     )
 
@@ -129,7 +143,8 @@ element-set-from-next : tie.Need-element-set-from-next Inv-loop μ-loop
 element-set-from-next c =
     let b = c .before .before .before .before .before .before in let d = b .before .before .before .before .before in
     let a = d .before .before .before .before .args in
-    let w = well-formed-says gateway (a .t1) .0 (passed-all _ _ _ (d .loop .inv) (b .before .before .before .before .loop-test .left)) in omega arith
+    let w = well-formed-says (modelOf (a .device)) (a .t2) .0 (passed-all _ _ _ (d .loop .inv)
+    (modelOf (a .device)) (sym (d .before .before .numbers-ok .ensures) ∙ not-false _ (d .before .if1 .left)) (b .before .before .before .before .loop-test .left)) in omega (arith, most-workers (a .device))
 
 same-length : tie.Need-same-length Inv-loop μ-loop
 same-length c = search needs
@@ -138,10 +153,11 @@ returns-6 : tie.Need-returns-6 Inv-loop μ-loop
 returns-6 c =
     let b = c .before .before .before .before .before .before in let d = b .before .before .before .before .before in
     let a = d .before .before .before .before .args in
-    let one = turn-by-one gateway (a .t1) (a .cells .now) (a .worker)
-    (passed-all _ _ _ (d .loop .inv) (b .before .before .before .before .loop-test .left))
+    let one = turn-by-one (modelOf (a .device)) (a .t2) (a .cells .now) (a .worker)
+    (passed-all _ _ _ (d .loop .inv)
+    (modelOf (a .device)) (sym (d .before .before .numbers-ok .ensures) ∙ not-false _ (d .before .if1 .left)) (b .before .before .before .before .loop-test .left))
     (b .before .before .before .if3 .left) (b .before .before .if4 .left) (b .before .if5 .left) in (
-      ap (with-moved (a .t1) (a .worker)) (c .before .before .before .one-turn .ensures .0) ∙ one .0,
+      ap (with-moved (a .t2) (a .worker)) (c .before .before .before .one-turn .ensures .0) ∙ one .0,
       c .before .before .before .one-turn .ensures .1 ∙ one .1,
     )
 

@@ -57,10 +57,13 @@ use Rattle.orders.specs.declared.Order.{Order}
 use Rattle.orders.specs.Orders.{blank}
 use Rattle.orders.proofs.Order as T
 use Rattle.orders.proofs.Order.Laws as T′
-use Rattle.state.specs.Model.{gateway}
+use Rattle.state.specs.Model.{modelOf}
 use Rattle.state.specs.declared.Counted.{Counted}
+use Rattle.state.specs.declared.Device.{Device}
 use Rattle.state.proofs.Counted as N
 use Rattle.state.proofs.Counted.Laws as N′
+use Rattle.state.proofs.Device as G
+use Rattle.state.proofs.Device.Laws as G′
 use Rattle.till.specs.declared.Begun.{Begun}
 use Rattle.till.specs.declared.Cursor.{Cursor}
 use Rattle.till.specs.declared.Dealt.{Dealt}
@@ -89,7 +92,10 @@ use Rattle.filling.proofs.read_till.Code as code
 use Rattle.filling.proofs.read_till.Code.Mir as body
 
 abbrev stayed : Stays (f.ended .signature .params) (f.ended .kept)
-stayed = (stay-none-slice (0 ∷ []) tt (plain (λ _. u8)) yes, (stay-none (λ _. u64) yes, (stay-slice (1 ∷ []) tt (plain (λ _. T.the-row)), tt)))
+stayed = (
+  stay-none (λ _. G.the-row) yes,
+  (stay-none-slice (0 ∷ []) tt (plain (λ _. u8)) yes, (stay-none (λ _. u64) yes, (stay-slice (1 ∷ []) tt (plain (λ _. T.the-row)), tt))),
+)
 
 -- the contracts of `begin` and `dealt_at`
 module _ {M : Type 1} (𝓤 : URA M) (H : Heap 𝓤) (A : Atoms 𝓤) (mem : Memory → SProp 𝓤) (run : Routine → Fun 𝓤) where
@@ -141,13 +147,16 @@ record Going (text : List ℕ) (crew n : ℕ) (old last : List Order) : Type 0 w
   so-far : filled itself crew text n orders i cursor ≡ last
 
 module _ {M : Type 1} (𝓤 : URA M) (H : Heap 𝓤) (A : Atoms 𝓤) (W : Given 𝓤 H A) (at-mem : Memory → SProp 𝓤) (run : Routine → Fun 𝓤)
-    (κ κ′ : Lft) (q q′ : Share) (b o : ℕ) (γ : GName) (text : List ℕ) (count : ℕ) (b′ o′ : ℕ) (γ′ : GName) (xs : List Order)
-    (text-room : Room u8 (length text)) (count-fits : count < 2 ^ 64) (room : Room T.the-row (length xs)) where
+    (κ κ′ : Lft) (q q′ : Share) (d : Device) (b o : ℕ) (γ : GName) (text : List ℕ) (count : ℕ) (b′ o′ : ℕ) (γ′ : GName) (xs : List Order)
+    (d-is : Is G.the-row d (EL.val G.the-type G′.the-laws d ∷ [])) (text-room : Room u8 (length text)) (count-fits : count < 2 ^ 64) (room : Room T.the-row (length xs)) where
   abbrev text-ref : RefT (List ℕ)
   text-ref = record { ptr = (b, o); name = γ; now = text }
 
-  abbrev x : RefT (List ℕ) × (ℕ × (RefT (List Order) × Unit {0}))
-  x = (text-ref, (count, (record { ptr = (b′, o′); name = γ′; now = xs }, tt)))
+  abbrev x : Device × (RefT (List ℕ) × (ℕ × (RefT (List Order) × Unit {0})))
+  x = (d, (text-ref, (count, (record { ptr = (b′, o′); name = γ′; now = xs }, tt))))
+
+  abbrev device-val : Val
+  device-val = EL.val G.the-type G′.the-laws d
 
   abbrev text-val : Val
   text-val = sliceVal (b, o) (length text)
@@ -155,8 +164,8 @@ module _ {M : Type 1} (𝓤 : URA M) (H : Heap 𝓤) (A : Atoms 𝓤) (W : Given
   abbrev orders-val : Val
   orders-val = sliceVal (b′, o′) (length xs)
 
-  abbrev vals : List Val × (List Val × (List Val × Unit {0}))
-  vals = (text-val ∷ [], (vint w64 count ∷ [], (orders-val ∷ [], tt)))
+  abbrev vals : List Val × (List Val × (List Val × (List Val × Unit {0})))
+  vals = (device-val ∷ [], (text-val ∷ [], (vint w64 count ∷ [], (orders-val ∷ [], tt))))
 
   abbrev Post : Val → SProp 𝓤
   Post = walkOf 𝓤 H A f.ended stayed (f.clauses 𝓤 H A at-mem run) .post (((κ, (κ′, tt)), (q, (q′, tt)), tt, x, vals), tt)
@@ -174,35 +183,36 @@ module _ {M : Type 1} (𝓤 : URA M) (H : Heap 𝓤) (A : Atoms 𝓤) (W : Given
   abbrev had : List Order → List (Item 𝓤)
   had zs = ‵ (flft κ q) ∷ ‵ TextOwn ∷ ‵ (flft κ′ q′) ∷ ‵ (Says zs) ∷ ‵ (Lent zs) ∷ []
 
-  exits : (r : Counted) (zs : List Order) → r ≡ tillCall gateway text count (length xs) → zs ≡ tillAfter gateway text count xs → length zs ≡ length xs
+  exits : (r : Counted) (zs : List Order) → r ≡ tillCall (modelOf d) text count (length xs) → zs ≡ tillAfter (modelOf d) text count xs → length zs ≡ length xs
       → Is N.the-row r (countedVal r ∷ []) → ent 𝓤 (⋆ 𝓤 H A (had zs)) (Post (countedVal r))
   exits r zs e e′ long is =
       qed W (had zs) ∵
       suffices ! _
       (ends-at 𝓤 H A f.ended stayed (f.clauses 𝓤 H A at-mem run) W (((κ, (κ′, tt)), (q, (q′, tt)), tt, x, vals), tt) (countedVal r) r
-      (tt, (tt, (zs, tt))) (tt, (tt, (long, tt)))) $
+      (tt, (tt, (tt, (zs, tt)))) (tt, (tt, (tt, (long, tt))))) $
       says ! (e, e′) $
       nothing ! $ move ! (3 ∷ 0 ∷ []) $ join ! $ move ! (1 ∷ 0 ∷ []) $ join ! $ frame ! $
       -- [the text; what says the orders; their borrow]
       move ! (1 ∷ 2 ∷ []) $ fjoin ! $
-      pureI ! (at-slice T.the-row (record { ptr = (b′, o′); name = γ′; now = zs }) (vals .1 .1 .0)) (tt, (tt, tt))
+      pureI ! (at-slice T.the-row (record { ptr = (b′, o′); name = γ′; now = zs }) (vals .1 .1 .1 .0)) (tt, (tt, tt))
       (ap (λ (m : ℕ). sliceVal (b′, o′) m ∷ []) (sym long), subst (Room T.the-row) (sym long) room) $ fjoin ! $
       nothing ! $ move ! (1 ∷ 0 ∷ []) $ fjoin ! $ owned ! u64 (Is u64) (uint-makes 𝓤 H A W w64) count _ (refl, count-fits) $ fjoin ! $
-      move ! (1 ∷ 0 ∷ []) $ fjoin ! $
+      move ! (1 ∷ 0 ∷ []) $ fjoin ! $ owned ! G.the-row (Is G.the-row) (EL.makes G.the-type G′.the-plain 𝓤 H A) d _ d-is $ fjoin ! $
       owned ! N.the-row (Is N.the-row) (EL.makes N.the-type N′.the-plain 𝓤 H A) r _ is $ move ! (1 ∷ 0 ∷ []) $ done !
 
   -- ---- the calls
-  abbrev asked : RefT (List ℕ) × (ℕ × (ℕ × Unit {0}))
-  asked = (text-ref, (count, (length xs, tt)))
+  abbrev asked : Device × (RefT (List ℕ) × (ℕ × (ℕ × Unit {0})))
+  asked = (d, (text-ref, (count, (length xs, tt))))
 
   abbrev to-begin : Begin 𝓤 H A at-mem run .Ghost
-  to-begin = (((κ, tt), (q, tt), tt, asked, (text-val ∷ [], (vint w64 count ∷ [], (vint w64 (length xs) ∷ [], tt)))), tt)
+  to-begin = (((κ, tt), (q, tt), tt, asked, (device-val ∷ [], (text-val ∷ [], (vint w64 count ∷ [], (vint w64 (length xs) ∷ [], tt))))), tt)
 
   begin-may-be-called : ent 𝓤 (sep 𝓤 (sep 𝓤 (A .lft κ q) (sem 𝓤 H A ftrue)) (sem 𝓤 H A TextOwn)) (Begin 𝓤 H A at-mem run .pre to-begin)
   begin-may-be-called =
       qed W ((‵ (flft κ q) ⊛ ‵ ftrue) ∷ ‵ TextOwn ∷ []) ∵
       nothing ! $ owned ! usize (Is usize) (uint-makes 𝓤 H A W w64) (length xs) _ (refl, room .0) $ fjoin ! $
       owned ! u64 (Is u64) (uint-makes 𝓤 H A W w64) count _ (refl, count-fits) $ fjoin ! $ move ! (2 ∷ 0 ∷ []) $ fjoin ! $
+      owned ! G.the-row (Is G.the-row) (EL.makes G.the-type G′.the-plain 𝓤 H A) d _ d-is $ fjoin ! $
       move ! (1 ∷ 0 ∷ []) $ join ! $ frame ! $ done !
 
   abbrev passed : ℕ → Cursor → RefT (List ℕ) × (ℕ × (Cursor × Unit {0}))
@@ -220,7 +230,7 @@ module _ {M : Type 1} (𝓤 : URA M) (H : Heap 𝓤) (A : Atoms 𝓤) (W : Given
       move ! (1 ∷ 0 ∷ []) $ join ! $ frame ! $ done !
 
   -- ---- the loop, after `begin` has answered y
-  module _ (y : Begun) (known-begun : Ready gateway text count (length xs) y) (y-is : Is B.the-row y (begunVal y ∷ [])) where
+  module _ (y : Begun) (known-begun : Ready (modelOf d) text count (length xs) y) (y-is : Is B.the-row y (begunVal y ∷ [])) where
     abbrev n : ℕ
     n = y .lines
 
@@ -236,7 +246,7 @@ module _ {M : Type 1} (𝓤 : URA M) (H : Heap 𝓤) (A : Atoms 𝓤) (W : Given
 
     -- what the walk is to leave in the list
     abbrev last : List Order
-    last = tillAfter gateway text count xs
+    last = tillAfter (modelOf d) text count xs
 
     abbrev State : Type 0
     State = Going text crew n xs last
@@ -257,7 +267,7 @@ module _ {M : Type 1} (𝓤 : URA M) (H : Heap 𝓤) (A : Atoms 𝓤) (W : Given
       so-far = fill-more itself crew text n (s .orders) (s .i) (s .cursor) r l e ∙ s .so-far;
     }
 
-    module _ (𝓣 : Tables 𝓤 H) (known : Triple 𝓤 (𝓣 .C #next) (Next 𝓤 H A at-mem run)) (l₀ l₁ l₂ l₃ l₄ l₅ l₆ l₇ l₈ l₉ l₁₀ l₁₁ : ℕ) where
+    module _ (𝓣 : Tables 𝓤 H) (known : Triple 𝓤 (𝓣 .C #next) (Next 𝓤 H A at-mem run)) (l₀ l₁ l₂ l₃ l₄ l₅ l₆ l₇ l₈ l₉ l₁₀ l₁₁ l₁₂ : ℕ) where
       abbrev C : Calls 𝓤 H
       C = 𝓣 .C
 
@@ -265,16 +275,17 @@ module _ {M : Type 1} (𝓤 : URA M) (H : Heap 𝓤) (A : Atoms 𝓤) (W : Given
       Λ = 𝓣 .Λ
 
       abbrev En : Env 𝓤 H
-      En = (N′.mir, l₀) ∷ (text-ty, l₁) ∷ (word, l₂) ∷ (orders-ty, l₃) ∷ (B′.mir, l₄) ∷ (K′.mir, l₅) ∷ (word, l₆) ∷ (D′.mir, l₇)
-          ∷ (word, l₈) ∷ (tyBool, l₉) ∷ (word, l₁₀) ∷ (tyPtr, l₁₁) ∷ []
+      En = (N′.mir, l₀) ∷ (G′.mir, l₁) ∷ (text-ty, l₂) ∷ (word, l₃) ∷ (orders-ty, l₄) ∷ (B′.mir, l₅) ∷ (K′.mir, l₆) ∷ (word, l₇) ∷ (D′.mir, l₈)
+          ∷ (word, l₉) ∷ (tyBool, l₁₀) ∷ (word, l₁₁) ∷ (tyPtr, l₁₂) ∷ []
 
-      -- local k stands at 2 · (11 - k)
+      -- local k stands at 2 · (12 - k)
       abbrev At : State → List (Item 𝓤)
-      At s = ‵ (froom tyPtr l₁₁ 0) ∷ ‵ (fdies tyPtr l₁₁) ∷ ‵ (froom word l₁₀ 0) ∷ ‵ (fdies word l₁₀) ∷ ‵ (froom tyBool l₉ 0) ∷ ‵ (fdies tyBool l₉)
-          ∷ ‵ (froom word l₈ 0) ∷ ‵ (fdies word l₈) ∷ ‵ (froom D′.mir l₇ 0) ∷ ‵ (fdies D′.mir l₇)
-          ∷ ‵ (fat fullShare word l₆ 0 (vint w64 (s .i))) ∷ ‵ (fdies word l₆) ∷ ‵ (fat fullShare K′.mir l₅ 0 (cursorVal (s .cursor))) ∷ ‵ (fdies K′.mir l₅)
-          ∷ ‵ (fat fullShare B′.mir l₄ 0 (begunVal y)) ∷ ‵ (fdies B′.mir l₄) ∷ ‵ (fat fullShare orders-ty l₃ 0 orders-val) ∷ ‵ (fdies orders-ty l₃)
-          ∷ ‵ (fat fullShare word l₂ 0 (vint w64 count)) ∷ ‵ (fdies word l₂) ∷ ‵ (fat fullShare text-ty l₁ 0 text-val) ∷ ‵ (fdies text-ty l₁)
+      At s = ‵ (froom tyPtr l₁₂ 0) ∷ ‵ (fdies tyPtr l₁₂) ∷ ‵ (froom word l₁₁ 0) ∷ ‵ (fdies word l₁₁) ∷ ‵ (froom tyBool l₁₀ 0) ∷ ‵ (fdies tyBool l₁₀)
+          ∷ ‵ (froom word l₉ 0) ∷ ‵ (fdies word l₉) ∷ ‵ (froom D′.mir l₈ 0) ∷ ‵ (fdies D′.mir l₈)
+          ∷ ‵ (fat fullShare word l₇ 0 (vint w64 (s .i))) ∷ ‵ (fdies word l₇) ∷ ‵ (fat fullShare K′.mir l₆ 0 (cursorVal (s .cursor))) ∷ ‵ (fdies K′.mir l₆)
+          ∷ ‵ (fat fullShare B′.mir l₅ 0 (begunVal y)) ∷ ‵ (fdies B′.mir l₅) ∷ ‵ (fat fullShare orders-ty l₄ 0 orders-val) ∷ ‵ (fdies orders-ty l₄)
+          ∷ ‵ (fat fullShare word l₃ 0 (vint w64 count)) ∷ ‵ (fdies word l₃) ∷ ‵ (fat fullShare text-ty l₂ 0 text-val) ∷ ‵ (fdies text-ty l₂)
+          ∷ ‵ (fat fullShare G′.mir l₁ 0 device-val) ∷ ‵ (fdies G′.mir l₁)
           ∷ ‵ (froom N′.mir l₀ 0) ∷ ‵ (fdies N′.mir l₀) ∷ had (s .orders)
 
       abbrev Turned : State → Out → SProp 𝓤
@@ -290,12 +301,12 @@ module _ {M : Type 1} (𝓤 : URA M) (H : Heap 𝓤) (A : Atoms 𝓤) (W : Given
           let inside : s .i < length (s .orders) = omega (arith, s .long, known-begun .room) in
           assigns ! (bin ! (load ! (from ! (stop !)) (look ! 10 refl)) (load ! (from ! (fld ! refl (stop !))) (look-in ! 14 (sub ! 1 refl (whole !)))) tt)
           (from ! (stop !)) (init ! 4 refl (tt, tt)) $
-          rewrite ! 4 (λ (t : Bool). ‵ (fat fullShare tyBool l₉ 0 (vbool t))) (lt-ltb (s .i) n l) refl $
+          rewrite ! 4 (λ (t : Bool). ‵ (fat fullShare tyBool l₁₀ 0 (vbool t))) (lt-ltb (s .i) n l) refl $
           stays ! (load ! (from ! (stop !)) (look ! 4 refl)) $
-          move ! (25 ∷ []) $ use1 W (‵ TextOwn ⊛ ‵ TextOwn) (shr-slice-copy 𝓤 H A W (named 0) κ u8 .twice text-ref (text-val ∷ [])) $ split ! $
-          nothing ! $ move ! (27 ∷ 0 ∷ []) $ join ! $
+          move ! (27 ∷ []) $ use1 W (‵ TextOwn ⊛ ‵ TextOwn) (shr-slice-copy 𝓤 H A W (named 0) κ u8 .twice text-ref (text-val ∷ [])) $ split ! $
+          nothing ! $ move ! (29 ∷ 0 ∷ []) $ join ! $
           use2 W (raw (Next 𝓤 H A at-mem run .pre (to-next crew (s .cursor)))) (next-may-be-called crew (s .cursor) crew-fits (s .cursor-is)) $
-          -- [what `dealt_at` needs; the text; _11 at 2; …; the orders' token; what says them; their borrow]
+          -- [what `dealt_at` needs; the text; _12 at 2; …; the orders' token; what says them; their borrow]
           calls-at ! (fmOf 𝓤 H (W .laws) 𝓣) (Next 𝓤 H A at-mem run) known (to-next crew (s .cursor))
           (and-then ! (load ! (from ! (stop !)) (look ! 22 refl))
           (and-then ! (load ! (from ! (fld ! refl (stop !))) (look-in ! 16 (sub ! 2 refl (whole !)))) (and-then ! (load ! (from ! (stop !)) (look ! 14 refl)) (no-more !)))) (λ w.
@@ -311,32 +322,32 @@ module _ {M : Type 1} (𝓤 : URA M) (H : Heap 𝓤) (A : Atoms 𝓤) (W : Given
           let fields = LL.owed D.the-type D′.the-laws r _ is in
           let order-is : Is T.the-row (r .order) (orderVal (r .order) ∷ []) = fields .0 in
           let cursor-is : IsCursor (r .next) = fields .1 .0 in
-          -- [the text's token; the text; _11 at 2; …; the orders' token; what says them; their borrow]
+          -- [the text's token; the text; _12 at 2; …; the orders' token; what says them; their borrow]
           land ! (from ! (stop !)) (init ! 10 refl (LL.lawful D.the-type D′.the-laws 𝓤 H A W .typed r _ is .0)) $
-          rewrite ! 10 (λ (u : Val). ‵ (fat fullShare D′.mir l₇ 0 u)) (ap only (LL.tells D.the-type D′.the-laws r (w ∷ []) is)) refl $
+          rewrite ! 10 (λ (u : Val). ‵ (fat fullShare D′.mir l₈ 0 u)) (ap only (LL.tells D.the-type D′.the-laws r (w ∷ []) is)) refl $
           assigns ! (bin ! (load ! (from ! (stop !)) (look ! 12 refl)) (lit ! tt) (record { fits = scaled })) (from ! (stop !))
           (init ! 4 refl (tt, record { fits = scaled })) $
           assigns ! (bin ! (load ! (from ! (fld ! refl (stop !))) (look-in ! 18 (sub ! 0 refl (whole !)))) (load ! (from ! (stop !)) (look ! 4 refl)) tt)
           (from ! (stop !)) (init ! 2 refl (tt, tt)) $
-          rewrite ! 2 (λ (p : ℕ). ‵ (fat fullShare tyPtr l₁₁ 0 (vptr b′ p))) (sym (place-is 12 o′ (s .i))) refl $
-          move ! (27 ∷ 28 ∷ 26 ∷ []) $ opens-slice ! tt T.the-row (s .orders) b′ o′ $
+          rewrite ! 2 (λ (p : ℕ). ‵ (fat fullShare tyPtr l₁₂ 0 (vptr b′ p))) (sym (place-is 12 o′ (s .i))) refl $
+          move ! (29 ∷ 30 ∷ 28 ∷ []) $ opens-slice ! tt T.the-row (s .orders) b′ o′ $
           elem-out ! T.the-row (Is T.the-row) (shows 𝓤 H A T.the-row) (LL.vals T.the-type T′.the-laws) (LL.tells T.the-type T′.the-laws)
           fullShare (s .orders) (s .i) blank b′ o′ inside (λ _.
-          -- [orders[i]; what it owns; the others; the open borrow; obs; auth; the text's token; the text; _11 at 8; …]
+          -- [orders[i]; what it owns; the others; the open borrow; obs; auth; the text's token; the text; _12 at 8; …]
           assigns ! (of-opd ! (load ! (from ! (fld ! refl (stop !))) (look-in ! 16 (sub ! 0 refl (whole !))))) (from ! (hop ! (look ! 8 refl) (stop !)))
           (store-raw ! 0 refl (LL.lawful T.the-type T′.the-laws 𝓤 H A W .typed (r .order) _ order-is .0)) $
           move ! (1 ∷ []) $ let-go ! $ owned ! T.the-row (Is T.the-row) (LL.makes T.the-type T′.the-plain 𝓤 H A) (r .order) _ order-is $
           move ! (1 ∷ 0 ∷ []) $ elem-put ! T.the-row fullShare (s .orders) (s .i) (r .order) (orderVal (r .order) ∷ []) b′ o′ inside $
           closes-slice ! tt T.the-row (s .orders) (set (s .orders) (s .i) (r .order)) (length-set (s .orders) (s .i) (r .order)) b′ o′ $
-          -- [obs; the borrow; the orders' token; the text's token; the text; _11 at 5; …]
+          -- [obs; the borrow; the orders' token; the text's token; the text; _12 at 5; …]
           assigns ! (of-opd ! (load ! (from ! (fld ! refl (stop !))) (look-in ! 13 (sub ! 1 refl (whole !))))) (from ! (stop !))
           (store ! 17 refl (LL.lawful K.the-type K′.the-laws 𝓤 H A W .typed (r .next) _ cursor-is .0)) $
           assigns-last ! (bin ! (load ! (from ! (stop !)) (look ! 15 refl)) (lit ! tt) (record { fits = next-fits })) (from ! (stop !))
           (store ! 15 refl (tt, record { fits = next-fits })) $
           forget ! 5 refl $ forget ! 7 refl $ forget ! 9 refl $ forget ! 13 refl $ move ! (3 ∷ []) $ split ! $
-          -- [the text's token; true; obs; the borrow; the orders' token; the text; _11 at 6; …]
+          -- [the text's token; true; obs; the borrow; the orders' token; the text; _12 at 6; …]
           keep ! (6 ∷ 7 ∷ 8 ∷ 9 ∷ 10 ∷ 11 ∷ 12 ∷ 13 ∷ 14 ∷ 15 ∷ 16 ∷ 17 ∷ 18 ∷ 19 ∷ 20 ∷ 21 ∷ 22 ∷ 23 ∷ 24 ∷ 25 ∷ 26 ∷ 27 ∷ 28
-          ∷ 29 ∷ 0 ∷ 5 ∷ 4 ∷ 2 ∷ 3 ∷ []) $
+          ∷ 29 ∷ 30 ∷ 31 ∷ 0 ∷ 5 ∷ 4 ∷ 2 ∷ 3 ∷ []) $
           again ! Nearer At s (advanced s r l e cursor-is) (omega arith)))))))
 
       -- the turn that leaves the loop, and the rest of the body
@@ -345,13 +356,13 @@ module _ {M : Type 1} (𝓤 : URA M) (H : Heap 𝓤) (A : Atoms 𝓤) (W : Given
       ends s l =
           assigns ! (bin ! (load ! (from ! (stop !)) (look ! 10 refl)) (load ! (from ! (fld ! refl (stop !))) (look-in ! 14 (sub ! 1 refl (whole !)))) tt)
           (from ! (stop !)) (init ! 4 refl (tt, tt)) $
-          rewrite ! 4 (λ (t : Bool). ‵ (fat fullShare tyBool l₉ 0 (vbool t))) (le-ltb (s .i) n l) refl $
+          rewrite ! 4 (λ (t : Bool). ‵ (fat fullShare tyBool l₁₀ 0 (vbool t))) (le-ltb (s .i) n l) refl $
           leaves-loop ! (load ! (from ! (stop !)) (look ! 4 refl)) $ exec ! C Λ En body.t-6 (atRet En Post) $
           assigns ! (of-opd ! (load ! (from ! (fld ! refl (stop !))) (look-in ! 14 (sub ! 0 refl (whole !))))) (from ! (stop !))
-          (init ! 22 refl (EL.lawful N.the-type N′.the-laws 𝓤 H A W tt .typed (y .counted) _ counted-is .0)) $
-          returns ! (look ! 22 refl) $ forget ! 4 refl $ forget ! 10 refl $ forget ! 12 refl $ forget ! 14 refl $ forget ! 16 refl $ forget ! 18 refl $
-          forget ! 20 refl $ forget ! 22 refl $
-          move ! (22 ∷ 23 ∷ []) $ free1 ! $ move ! (20 ∷ 21 ∷ []) $ free1 ! $ move ! (18 ∷ 19 ∷ []) $ free1 ! $ move ! (16 ∷ 17 ∷ []) $ free1 ! $
+          (init ! 24 refl (EL.lawful N.the-type N′.the-laws 𝓤 H A W tt .typed (y .counted) _ counted-is .0)) $
+          returns ! (look ! 24 refl) $ forget ! 4 refl $ forget ! 10 refl $ forget ! 12 refl $ forget ! 14 refl $ forget ! 16 refl $ forget ! 18 refl $
+          forget ! 20 refl $ forget ! 22 refl $ forget ! 24 refl $
+          move ! (24 ∷ 25 ∷ []) $ free1 ! $ move ! (22 ∷ 23 ∷ []) $ free1 ! $ move ! (20 ∷ 21 ∷ []) $ free1 ! $ move ! (18 ∷ 19 ∷ []) $ free1 ! $ move ! (16 ∷ 17 ∷ []) $ free1 ! $
           move ! (14 ∷ 15 ∷ []) $ free1 ! $ move ! (12 ∷ 13 ∷ []) $ free1 ! $ move ! (10 ∷ 11 ∷ []) $ free1 ! $ move ! (8 ∷ 9 ∷ []) $ free1 ! $
           move ! (6 ∷ 7 ∷ []) $ free1 ! $ move ! (4 ∷ 5 ∷ []) $ free1 ! $ move ! (2 ∷ 3 ∷ []) $ free1 ! $ free1 ! $ free0 ! $
           by ! (exits (y .counted) (s .orders) (known-begun .counted) (sym (fill-end itself crew text n (s .orders) (s .i) (s .cursor) l) ∙ s .so-far) (s .long)
@@ -362,7 +373,7 @@ module _ {M : Type 1} (𝓤 : URA M) (H : Heap 𝓤) (A : Atoms 𝓤) (W : Given
 
       -- the first turn, and so the rest of the body
       abbrev begun : State
-      begun = record { i = 0; cursor = start; orders = xs; cursor-is = start-is; long = refl; so-far = fill-whole gateway text count xs y known-begun }
+      begun = record { i = 0; cursor = start; orders = xs; cursor-is = start-is; long = refl; so-far = fill-whole (modelOf d) text count xs y known-begun }
 
       runs-loop : Sq W (At begun) (runs C Λ En body.t-5 (atRet En Post))
       runs-loop = first ! $ blocks ! $ loops ! 𝓣 Nearer Nearer-wf At turns begun
@@ -370,65 +381,70 @@ module _ {M : Type 1} (𝓤 : URA M) (H : Heap 𝓤) (A : Atoms 𝓤) (W : Given
   -- the MIR up to the loop
   walk : (𝓣 : Tables 𝓤 H) (known : Triple 𝓤 (𝓣 .C #next) (Next 𝓤 H A at-mem run)) (known-begin : Triple 𝓤 (𝓣 .C #begin) (Begin 𝓤 H A at-mem run))
       → ent 𝓤 (onEntry 𝓤 H A f.signature (κ, (κ′, tt)) (q, (q′, tt)) x vals)
-      (WpFn 𝓤 H (𝓣 .C) (𝓣 .Λ) code.function (text-val ∷ vint w64 count ∷ orders-val ∷ []) Post)
+      (WpFn 𝓤 H (𝓣 .C) (𝓣 .Λ) code.function (device-val ∷ text-val ∷ vint w64 count ∷ orders-val ∷ []) Post)
   walk 𝓣 known known-begin =
-      qed W ((‵ (flft κ q) ⊛ ‵ (flft κ′ q′) ⊛ ‵ ftrue) ∷ ‵ (owns (ShrSlice (named 0) κ u8 ∷ u64 ∷ MutSlice (named 1) κ′ T.the-row ∷ []) x vals) ∷ []) ∵
-      enter ! (𝓣 .C) (𝓣 .Λ) code.function (text-val ∷ vint w64 count ∷ orders-val ∷ []) _ $
-      alloc1 ! (λ l₀. alloc1 ! (λ l₁. alloc1 ! (λ l₂. alloc1 ! (λ l₃. alloc1 ! (λ l₄. alloc1 ! (λ l₅. alloc1 ! (λ l₆.
-      alloc1 ! (λ l₇. alloc1 ! (λ l₈. alloc1 ! (λ l₉. alloc1 ! (λ l₁₀. alloc1 ! (λ l₁₁. alloc0 ! $ params1 ! $
+      qed W ((‵ (flft κ q) ⊛ ‵ (flft κ′ q′) ⊛ ‵ ftrue) ∷ ‵ (owns (G.the-row ∷ ShrSlice (named 0) κ u8 ∷ u64 ∷ MutSlice (named 1) κ′ T.the-row ∷ []) x vals) ∷ []) ∵
+      enter ! (𝓣 .C) (𝓣 .Λ) code.function (device-val ∷ text-val ∷ vint w64 count ∷ orders-val ∷ []) _ $
+      alloc1 ! (λ l₀. alloc1 ! (λ l₁. alloc1 ! (λ l₂. alloc1 ! (λ l₃. alloc1 ! (λ l₄. alloc1 ! (λ l₅. alloc1 ! (λ l₆. alloc1 ! (λ l₇.
+      alloc1 ! (λ l₈. alloc1 ! (λ l₉. alloc1 ! (λ l₁₀. alloc1 ! (λ l₁₁. alloc1 ! (λ l₁₂. alloc0 ! $ params1 ! $
+      pass1 ! (init ! 22 refl (EL.lawful G.the-type G′.the-laws 𝓤 H A W tt .typed d _ d-is .0)) $
       pass1 ! (init ! 20 refl (tt, (tt, (record { fits = text-room .0 }, tt)))) $ pass1 ! (init ! 18 refl (tt, record { fits = count-fits })) $
       pass1 ! (init ! 16 refl (tt, (tt, (record { fits = room .0 }, tt)))) $ pass0 ! $
       assigns ! (of-opd ! (load ! (from ! (fld ! refl (stop !))) (look-in ! 16 (sub ! 1 refl (whole !))))) (from ! (stop !))
       (init ! 6 refl (tt, record { fits = room .0 })) $
-      -- [_11; …; _0; …; the tokens; what the parameters own]
-      move ! (25 ∷ []) $ fsplit ! $ use1 W (‵ TextOwn ⊛ ‵ TextOwn) (shr-slice-copy 𝓤 H A W (named 0) κ u8 .twice text-ref (text-val ∷ [])) $ split ! $
-      move ! (27 ∷ []) $ split ! $ move ! (1 ∷ []) $ split ! $ move ! (2 ∷ 1 ∷ []) $ join ! $ move ! (0 ∷ 2 ∷ []) $
+      -- [_12; …; _0; …; the tokens; what the parameters own]
+      move ! (27 ∷ []) $ fsplit ! $ let-go ! $ fsplit ! $ use1 W (‵ TextOwn ⊛ ‵ TextOwn) (shr-slice-copy 𝓤 H A W (named 0) κ u8 .twice text-ref (text-val ∷ [])) $ split ! $
+      move ! (29 ∷ []) $ split ! $ move ! (1 ∷ []) $ split ! $ move ! (2 ∷ 1 ∷ []) $ join ! $ move ! (0 ∷ 2 ∷ []) $
       use2 W (raw (Begin 𝓤 H A at-mem run .pre to-begin)) begin-may-be-called $
-      -- [what `begin` needs; the orders' token; the text; what the others own; _11 at 4; …]
+      -- [what `begin` needs; the orders' token; the text; what the others own; _12 at 4; …]
       calls-at ! (fmOf 𝓤 H (W .laws) 𝓣) (Begin 𝓤 H A at-mem run) known-begin to-begin
-      (and-then ! (load ! (from ! (stop !)) (look ! 24 refl))
-      (and-then ! (load ! (from ! (stop !)) (look ! 22 refl)) (and-then ! (load ! (from ! (stop !)) (look ! 10 refl)) (no-more !)))) (λ w.
+      (and-then ! (load ! (from ! (stop !)) (look ! 26 refl)) (and-then ! (load ! (from ! (stop !)) (look ! 24 refl))
+      (and-then ! (load ! (from ! (stop !)) (look ! 22 refl)) (and-then ! (load ! (from ! (stop !)) (look ! 10 refl)) (no-more !))))) (λ w.
       use1 W
       (later (some (λ (y : Begun). ((‵ (flft κ q) ⊛ ‵ ftrue) ⊛ ‵ (B.the-row .own y (w ∷ [])))
       ⊛ raw (ensured 𝓤 H A begin.ended (begin.clauses 𝓤 H A at-mem run) (κ, tt) asked tt y))))
       (id⊢ 𝓤 _) $ await ! tt $ pick ! (λ y. split ! $ move ! (1 ∷ []) $
       use1 W
-      (some (λ (zs : Unit {0} × (Unit {0} × (Unit {0} × Unit {0}))). ‵ (lasts begin.ended (κ, tt) asked zs)
-      ⊛ raw (fact 𝓤 (y ≡ begunOf gateway text count (length xs)))))
-      (id⊢ 𝓤 _) $ pick ! (λ zs. split ! $ move ! (1 ∷ []) $ heard ! (y ≡ begunOf gateway text count (length xs)) (λ begun-is.
+      (some (λ (zs : Unit {0} × (Unit {0} × (Unit {0} × (Unit {0} × Unit {0})))). ‵ (lasts begin.ended (κ, tt) asked zs)
+      ⊛ raw (fact 𝓤 (y ≡ begunOf (modelOf d) text count (length xs)))))
+      (id⊢ 𝓤 _) $ pick ! (λ zs. split ! $ move ! (1 ∷ []) $ heard ! (y ≡ begunOf (modelOf d) text count (length xs)) (λ begun-is.
       let-go ! $ split ! $ move ! (1 ∷ []) $ facts ! B.the-row (Is B.the-row) (shows 𝓤 H A B.the-row) y (w ∷ []) (λ is.
       let tells = LL.tells B.the-type B′.the-laws y (w ∷ []) is in
       let y-is : Is B.the-row y (begunVal y ∷ []) = subst (λ (vs : List Val). Is B.the-row y vs) tells is in
-      -- [the text's token; the orders' token; the text; what the others own; _11 at 4; …]
+      -- [the text's token; the orders' token; the text; what the others own; _12 at 4; …]
       land ! (from ! (stop !)) (init ! 18 refl (LL.lawful B.the-type B′.the-laws 𝓤 H A W .typed y _ is .0)) $
-      rewrite ! 18 (λ (u : Val). ‵ (fat fullShare B′.mir l₄ 0 u)) (ap only tells) refl $
+      rewrite ! 18 (λ (u : Val). ‵ (fat fullShare B′.mir l₅ 0 u)) (ap only tells) refl $
       assigns ! (agg ! (and-then ! (lit ! tt) (and-then ! (lit ! tt) (no-more !)))) (from ! (stop !))
       (init ! 16 refl (LL.lawful K.the-type K′.the-laws 𝓤 H A W .typed start _ start-is .0)) $
       assigns ! (of-opd ! (lit ! tt)) (from ! (stop !)) (init ! 14 refl (tt, record { fits = lit< tt })) $
       forget ! 10 refl $
       move ! (3 ∷ []) $ fsplit ! $ let-go ! $ fsplit ! $ fsplit ! $ move ! (1 ∷ []) $ fsplit ! $ move ! (4 ∷ []) $ split ! $
-      -- [the text's token; true; what says the orders; their borrow; the slice's fact; true; the orders' token; the text; _11 at 8; …]
+      -- [the text's token; true; what says the orders; their borrow; the slice's fact; true; the orders' token; the text; _12 at 8; …]
       keep ! (8 ∷ 9 ∷ 10 ∷ 11 ∷ 12 ∷ 13 ∷ 14 ∷ 15 ∷ 16 ∷ 17 ∷ 18 ∷ 19 ∷ 20 ∷ 21 ∷ 22 ∷ 23 ∷ 24 ∷ 25 ∷ 26 ∷ 27 ∷ 28 ∷ 29 ∷ 30
-      ∷ 31 ∷ 0 ∷ 7 ∷ 6 ∷ 2 ∷ 3 ∷ []) $
-      runs-loop y (ready gateway text count (length xs) y begun-is) y-is 𝓣 known l₀ l₁ l₂ l₃ l₄ l₅ l₆ l₇ l₈ l₉ l₁₀ l₁₁)))))))))))))))))
+      ∷ 31 ∷ 32 ∷ 33 ∷ 0 ∷ 7 ∷ 6 ∷ 2 ∷ 3 ∷ []) $
+      runs-loop y (ready (modelOf d) text count (length xs) y begun-is) y-is 𝓣 known l₀ l₁ l₂ l₃ l₄ l₅ l₆ l₇ l₈ l₉ l₁₀ l₁₁ l₁₂))))))))))))))))))
 
 module _ {M : Type 1} (𝓤 : URA M) (H : Heap 𝓤) (A : Atoms 𝓤) (W : Given 𝓤 H A) (mem : Memory → SProp 𝓤) (run : Routine → Fun 𝓤) where
   read-till-walks : (𝓣 : Tables 𝓤 H) → Triple 𝓤 (𝓣 .C #next) (Next 𝓤 H A mem run) → Triple 𝓤 (𝓣 .C #begin) (Begin 𝓤 H A mem run)
       → Walks 𝓤 H A f.ended stayed (WpFn 𝓤 H (𝓣 .C) (𝓣 .Λ) code.function) (f.clauses 𝓤 H A mem run)
   read-till-walks 𝓣 known known-begin = walked 𝓤 H A f.ended stayed (f.clauses 𝓤 H A mem run) (WpFn 𝓤 H (𝓣 .C) (𝓣 .Λ) code.function)
-      (λ κs. (slice-vals, (uint-vals w64, (slice-vals, tt))))
-      (λ κs. (shr-slice-tells (named 0) (κs .0) u8, (uint-tells w64, (mut-slice-tells (named 1) (κs .1 .0) T.the-row, tt))))
+      (λ κs. (EL.vals G.the-type G′.the-laws, (slice-vals, (uint-vals w64, (slice-vals, tt)))))
+      (λ κs. (EL.tells G.the-type G′.the-laws, (shr-slice-tells (named 0) (κs .0) u8, (uint-tells w64, (mut-slice-tells (named 1) (κs .1 .0) T.the-row, tt)))))
       (λ κs qs bounds a g are. via 𝓤 _ (fst∗ 𝓤 _ (emp 𝓤))
-      (walk 𝓤 H A W mem run (κs .0) (κs .1 .0) (qs .0) (qs .1 .0) (a .0 .ptr .0) (a .0 .ptr .1) (a .0 .name) (a .0 .now) (a .1 .0)
-      (a .1 .1 .0 .ptr .0) (a .1 .1 .0 .ptr .1) (a .1 .1 .0 .name) (a .1 .1 .0 .now) (are .0 .0 .1) (are .1 .0 .1) (are .1 .1 .0 .0 .1)
+      (walk 𝓤 H A W mem run (κs .0) (κs .1 .0) (qs .0) (qs .1 .0) (a .0) (a .1 .0 .ptr .0) (a .1 .0 .ptr .1) (a .1 .0 .name) (a .1 .0 .now) (a .1 .1 .0)
+      (a .1 .1 .1 .0 .ptr .0) (a .1 .1 .1 .0 .ptr .1) (a .1 .1 .1 .0 .name) (a .1 .1 .1 .0 .now) (are .0) (are .1 .0 .0 .1) (are .1 .1 .0 .1)
+      (are .1 .1 .1 .0 .0 .1)
       𝓣 known known-begin))
 
   read-till-meets : (𝓣 : Tables 𝓤 H) → Triple 𝓤 (𝓣 .C #next) (Next 𝓤 H A mem run) → Triple 𝓤 (𝓣 .C #begin) (Begin 𝓤 H A mem run)
       → Meets 𝓤 H A f.signature (WpFn 𝓤 H (𝓣 .C) (𝓣 .Λ) code.function) (f.spec 𝓤 H A mem run)
   read-till-meets 𝓣 known known-begin =
       walk-meets 𝓤 H A f.ended stayed W (
-        goes-none-slice 𝓤 H A W 2 (0 ∷ []) tt (plain (λ _. u8)) yes,
-        (goes-none 𝓤 H A W 2 (λ _. u64) yes (λ κs x f. refl), (goes-slice 𝓤 H A W 2 1 tt (plain (λ _. T.the-row)), tt)),
+        goes-none 𝓤 H A W 2 (λ _. G.the-row) yes (λ κs x f. refl),
+        (
+          goes-none-slice 𝓤 H A W 2 (0 ∷ []) tt (plain (λ _. u8)) yes,
+          (goes-none 𝓤 H A W 2 (λ _. u64) yes (λ κs x f. refl), (goes-slice 𝓤 H A W 2 1 tt (plain (λ _. T.the-row)), tt)),
+        ),
       )
       (f.clauses 𝓤 H A mem run) (WpFn 𝓤 H (𝓣 .C) (𝓣 .Λ) code.function) (WpFn-mono 𝓤 H (W .laws) 𝓣 code.function) (read-till-walks 𝓣 known known-begin)
 

@@ -1,4 +1,4 @@
--- The loop's invariant: the phase is well formed if the workers not yet passed are.
+-- The loop's invariant: the workers are as they should be if those not yet passed are.
 use Prim.Native.Nat.{_-_}
 use mathlib.Core.Path.{sym, _∙_}
 use native.Mathlib.Omega.{arith}
@@ -11,7 +11,7 @@ use Rattle.formed.proofs.is_well_formed.Statement.{statement}
 use Rattle.formed.proofs.is_well_formed.Tie as tie
 
 abbrev Inv-loop : tie.InvT-loop
-Inv-loop p i₀ i = Passed gateway p i
+Inv-loop p i₀ i = Passed (gateway .room) p i
 
 abbrev μ-loop : tie.MeasureT-loop
 μ-loop p i₀ i = 16 - i
@@ -24,8 +24,8 @@ returns c = sym (ill-by-numbers _ _ (sym (c .before .numbers-ok .ensures) ∙ no
 
 loop-holds : tie.Need-loop-holds Inv-loop μ-loop
 loop-holds c =
-    let array = c .before .before .good .0 .1 .1 .1 .1 .1 .1 .1 .0 .1 .0 .1 in
-    none-passed _ _ (sym (c .before .numbers-ok .ensures) ∙ not-false _ (c .if1 .left)) (simp length-map at array)
+    let array = c .before .before .good .1 .0 .1 .1 .1 .1 .1 .1 .1 .0 .1 .0 .1 in
+    none-passed _ _ (simp length-map at array)
 
 mul-w : tie.Need-mul-w Inv-loop μ-loop
 mul-w c = omega arith
@@ -41,8 +41,9 @@ worker-ok-requires c κs = search needs
 
 returns-2 : tie.Need-returns-2 Inv-loop μ-loop
 returns-2 c =
-    let l = c .before .before .before .before .loop in
-    sym (fails _ _ _ (l .inv) (c .before .before .before .loop-test .taken) _ (c .before .worker-ok .ensures) (not-true _ (c .if2 .taken)))
+    let l = c .before .before .before .before in
+    sym (fails _ _ _ (l .loop .inv) _ (sym (l .before .before .numbers-ok .ensures) ∙ not-false _ (l .before .if1 .left))
+    (c .before .before .before .loop-test .taken) _ (c .before .worker-ok .ensures) (not-true _ (c .if2 .taken)))
 
 add-i : tie.Need-add-i Inv-loop μ-loop
 add-i c = omega arith
@@ -56,7 +57,9 @@ loop-again c =
     passes _ _ _ (l .inv) (c .before .before .before .loop-test .taken) _ (c .before .worker-ok .ensures) (not-false _ (c .if2 .left))
 
 returns-3 : tie.Need-returns-3 Inv-loop μ-loop
-returns-3 c = sym (passed-all _ _ _ (c .before .loop .inv) (c .loop-test .left))
+returns-3 c =
+    let l = c .before in
+    sym (passed-all _ _ _ (l .loop .inv) _ (sym (l .before .before .numbers-ok .ensures) ∙ not-false _ (l .before .if1 .left)) (c .loop-test .left))
 
 pub is-well-formed-spec : {M : Type 1} → statement M
 is-well-formed-spec =

@@ -3,7 +3,7 @@ use Prim.Native.Nat.{_≤_, _-_}
 use native.Mathlib.Omega.{arith}
 use borrow.Author.Needs.{needs}
 use Rattle.orders.specs.Orders.{ordersOf}
-use Rattle.state.specs.Model.{gateway}
+use Rattle.state.specs.Model.{modelOf}
 use Rattle.numbered.specs.Lists.{fewest}
 use Rattle.inplace.proofs.InPlace.{InPlace, some-cells, few-workers, worker-fits}
 use Rattle.inplace.proofs.InPlace.{order-barred-next, asked-below, given-next, barred-next, turned-below, moved-next, closed-next}
@@ -30,9 +30,10 @@ loop-holds c =
       c .fewest .ensures,
       omega arith,
       record {
-        ran = none-run gateway (ordersOf (a .order-keys .now) (a .order-prices .now) (a .order-workers .now)) (a .ops .now) (a .lines .now) (a .workers .now) (a .keys .now)
+        ran = λ d g. none-run (modelOf d) (ordersOf (a .order-keys .now) (a .order-prices .now) (a .order-workers .now)) (a .ops .now) (a .lines .now) (a .workers .now) (a .keys .now)
             (a .phase) (a .cells .now) (a .answers .now);
-        good = f .pre .0;
+        good = λ d g. g;
+        some = f .pre .0;
         fits = f .pre .1;
         same-cells = refl;
         same-answers = refl;

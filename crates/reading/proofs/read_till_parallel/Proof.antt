@@ -1,4 +1,4 @@
--- The loop keeps, for each of the three lists, that what is left to write of it gives the list that the call leaves.
+-- The loop keeps, for each of the three lists, that what is left to write of it gives what writing all of it gives. This speaks of no model.
 use mathlib.Core.Path.{_≡_, refl, sym, _∙_}
 use mathlib.Core.List.{List, map}
 use Prim.Native.Nat.{ℕ, _+_, _-_, _≤_, _<_}
@@ -7,37 +7,38 @@ use borrow.Author.Needs.{needs}
 use lib.ListN.{length, set, length-set}
 use Rattle.orders.specs.declared.Order.{Order}
 use Rattle.parallel.proofs.Parallel.{orders-length}
-use Rattle.state.specs.Model.{gateway}
+use Rattle.state.specs.Model.{Model, modelOf}
 use Rattle.till.specs.declared.Begun.{Begun}
 use Rattle.till.specs.declared.Cursor.{Cursor}
 use Rattle.till.specs.declared.Dealt.{Dealt}
 use Rattle.till.specs.Places.{start, dealtAt}
-use Rattle.till.specs.Till.{tillOrders, over, keysAfter, pricesAfter, workersAfter}
+use Rattle.till.specs.Till.{tillOrders, over}
 use Rattle.till.proofs.Places.{Ready, ready}
 use Rattle.till.proofs.Turns.{filled, fill-start, fill-more, fill-end}
 use Rattle.reading.proofs.read_till_parallel.Statement.{statement}
 use Rattle.reading.proofs.read_till_parallel.Tie as tie
 
--- ---- one of the three lists: `f` of each order is written over the front of `old`, which gives `last`
-record Filling (f : Order → ℕ) (crew : ℕ) (text : List ℕ) (n : ℕ) (old last xs : List ℕ) (c : Cursor) (i : ℕ) : Type 0 where
+-- ---- one of the three lists: `f` of each of n orders is to be written over the front of `old`
+record Filling (f : Order → ℕ) (crew : ℕ) (text : List ℕ) (n : ℕ) (old xs : List ℕ) (c : Cursor) (i : ℕ) : Type 0 where
   long : length xs ≡ length old
   room : n ≤ length old
-  so-far : filled f crew text n xs i c ≡ last
+  so-far : filled f crew text n xs i c ≡ filled f crew text n old 0 start
 
-module _ {f : Order → ℕ} {crew : ℕ} {text : List ℕ} {n : ℕ} {old last xs : List ℕ} {c : Cursor} {i : ℕ} (v : Filling f crew text n old last xs c i) where
+begins : (f : Order → ℕ) (crew : ℕ) (text : List ℕ) (n : ℕ) (old : List ℕ) → n ≤ length old → Filling f crew text n old old start 0
+begins f crew text n old h = record { long = refl; room = h; so-far = refl }
+
+module _ {f : Order → ℕ} {crew : ℕ} {text : List ℕ} {n : ℕ} {old xs : List ℕ} {c : Cursor} {i : ℕ} (v : Filling f crew text n old xs c i) where
   inside : i < n → i < length xs
   inside h = omega (arith, v .long, v .room)
 
-  goes-on : (r : Dealt) → i < n → r ≡ dealtAt crew text c → Filling f crew text n old last (set xs i (f (r .order))) (r .next) (i + 1)
+  goes-on : (r : Dealt) → i < n → r ≡ dealtAt crew text c → Filling f crew text n old (set xs i (f (r .order))) (r .next) (i + 1)
   goes-on r h e = record { long = rw length-set (v .long); room = v .room; so-far = fill-more f crew text n xs i c r h e ∙ v .so-far }
 
-  ends : n ≤ i → xs ≡ last
-  ends h = sym (fill-end f crew text n xs i c h) ∙ v .so-far
-
-begins : (f : Order → ℕ) (text : List ℕ) (m places : ℕ) (old : List ℕ) (b : Begun) → Ready gateway text m places b → places ≤ length old
-    → Filling f (b .crew) text (b .lines) old (over (map f (tillOrders gateway text m places)) old) old start 0
-begins f text m places old b known h =
-    record { long = refl; room = omega (arith, known .room); so-far = fill-start f gateway text m places old b known h }
+-- in a model, what was begun gives the list that the call leaves
+ends : {f : Order → ℕ} {old xs : List ℕ} {c : Cursor} {i : ℕ} (M : Model) (text : List ℕ) (m places : ℕ) (b : Begun) → Ready M text m places b
+    → Filling f (b .crew) text (b .lines) old xs c i → places ≤ length old → b .lines ≤ i → xs ≡ over (map f (tillOrders M text m places)) old
+ends {f = f} {old = old} {xs = xs} {c = c} {i = i} M text m places b known v h l =
+    sym (fill-end f (b .crew) text (b .lines) xs i c l) ∙ v .so-far ∙ fill-start f M text m places old b known h
 
 -- ---- the three
 abbrev key : Order → ℕ
@@ -51,9 +52,9 @@ worker o = o .worker
 
 abbrev Inv-loop : tie.InvT-loop
 Inv-loop text count keys₀ prices₀ workers₀ begun lines crew cursor₀ i₀ keys prices workers cursor i =
-    Filling key crew text lines keys₀ (keysAfter gateway text count keys₀ prices₀ workers₀) keys cursor i
-    × Filling price crew text lines prices₀ (pricesAfter gateway text count keys₀ prices₀ workers₀) prices cursor i
-    × Filling worker crew text lines workers₀ (workersAfter gateway text count keys₀ prices₀ workers₀) workers cursor i
+    Filling key crew text lines keys₀ keys cursor i
+    × Filling price crew text lines prices₀ prices cursor i
+    × Filling worker crew text lines workers₀ workers cursor i
 
 abbrev μ-loop : tie.MeasureT-loop
 μ-loop text count keys₀ prices₀ workers₀ begun lines crew cursor₀ i₀ keys prices workers cursor i = lines - i
@@ -68,8 +69,8 @@ loop-holds : tie.Need-loop-holds Inv-loop μ-loop
 loop-holds c =
     let a = c .before .before .before .before .before .before .before .before .before .args in
     let e = orders-length (a .keys .now) (a .prices .now) (a .workers .now) in
-    let known = ready _ _ _ _ _ (rw (c .before .lines-of .ensures) at (c .begin .ensures)) in
-    (begins key _ _ _ _ _ known (omega arith), begins price _ _ _ _ _ known (omega arith), begins worker _ _ _ _ _ known (omega arith))
+    let known = ready (modelOf (a .device)) _ _ _ _ (rw (c .before .lines-of .ensures) at (c .begin .ensures)) in
+    (begins key _ _ _ _ (omega (arith, known .room)), begins price _ _ _ _ (omega (arith, known .room)), begins worker _ _ _ _ (omega (arith, known .room)))
 
 dealt-at-requires : tie.Need-dealt-at-requires Inv-loop μ-loop
 dealt-at-requires c κs = search needs
@@ -116,8 +117,17 @@ same-length-3 c = c .before .loop .inv .2 .long
 
 returns : tie.Need-returns Inv-loop μ-loop
 returns c =
+    let b = c .before .before in
+    let a = b .before .before .before .before .before .before .before .before .before .args in
+    let e = orders-length (a .keys .now) (a .prices .now) (a .workers .now) in
+    let known = ready (modelOf (a .device)) _ _ _ _ (rw (b .before .lines-of .ensures) at (b .begin .ensures)) in
     let v = c .before .loop .inv in
-    (ready _ _ _ _ _ (rw (c .before .before .before .lines-of .ensures) at (c .before .before .begin .ensures)) .counted, ends (v .0) (c .loop-test .left), ends (v .1) (c .loop-test .left), ends (v .2) (c .loop-test .left))
+    let last = c .loop-test .left in (
+      known .counted,
+      ends _ _ _ _ _ known (v .0) (omega arith) last,
+      ends _ _ _ _ _ known (v .1) (omega arith) last,
+      ends _ _ _ _ _ known (v .2) (omega arith) last,
+    )
 
 pub read-till-parallel-spec : {M : Type 1} → statement M
 read-till-parallel-spec =

@@ -1,5 +1,5 @@
 use mathlib.Core.Path.{_∙_, sym, ap}
-use Rattle.state.specs.Model.{gateway}
+use Rattle.state.specs.Model.{modelOf}
 use Rattle.state.specs.declared.Reply.the-variants.{Accepted, Refused}
 use Rattle.state.specs.declared.Counted.the-variants as counted
 use Rattle.tables.proofs.Answers.{count-by}
@@ -24,13 +24,13 @@ returns c =
     let checked = c .before .before .before in
     let a = checked .before .before .args in
     ap counted.Count (c .count-keys .ensures)
-    ∙ sym (count-by gateway (a .hash) (a .cells .now) Accepted (sym (checked .check .ensures) ∙ c .before .enum-told .given .1))
+    ∙ sym (count-by (modelOf (a .device)) (a .hash) (a .cells .now) Accepted (sym (checked .check .ensures) ∙ c .before .enum-told .given .1))
 
 returns-2 : tie.Need-returns-2
 returns-2 c =
     let checked = c .before .before .before in
     let a = checked .before .before .args in
-    sym (count-by gateway (a .hash) (a .cells .now) (Refused _) (sym (checked .check .ensures) ∙ c .before .checked .given .1))
+    sym (count-by (modelOf (a .device)) (a .hash) (a .cells .now) (Refused _) (sym (checked .check .ensures) ∙ c .before .checked .given .1))
 
 pub count-spec : {M : Type 1} → statement M
 count-spec =

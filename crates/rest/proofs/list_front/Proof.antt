@@ -1,5 +1,5 @@
 use mathlib.Core.Path.{_∙_, refl, sym}
-use Rattle.state.specs.Model.{gateway}
+use Rattle.state.specs.Model.{modelOf}
 use Rattle.state.specs.declared.Counted.the-variants as counted
 use Rattle.tables.proofs.Answers.{front, front-as, front-length}
 use borrow.Author.Needs.{needs}
@@ -16,7 +16,7 @@ slice-aggregate-result : tie.Need-slice-aggregate-result
 slice-aggregate-result c =
     let a = c .before .before .before .before .before .before .before .before .before .before .args in
     let listed = c .before .before .before .before .before .before .list .ensures in
-    front-length gateway (a .hash) (a .cells .now) (a .out .now) _ _ (sym (listed .0) ∙ c .before .before .listed .given .1) (listed .1)
+    front-length (modelOf (a .device)) (a .hash) (a .cells .now) (a .out .now) _ _ (sym (listed .0) ∙ c .before .before .listed .given .1) (listed .1)
 
 enum-told : tie.Need-enum-told
 enum-told c = search needs
@@ -28,12 +28,15 @@ returns : tie.Need-returns
 returns c =
     let a = c .before .before .before .before .before .before .before .before .before .before .args in
     let listed = c .before .before .before .before .before .before .list .ensures in
-    (front gateway (a .hash) (a .cells .now) (a .out .now) _ _ (sym (listed .0) ∙ c .before .before .listed .given .1) (listed .1), refl)
+    (front (modelOf (a .device)) (a .hash) (a .cells .now) (a .out .now) _ _ (sym (listed .0) ∙ c .before .before .listed .given .1) (listed .1), refl)
 
 returns-2 : tie.Need-returns-2
 returns-2 c =
-    let a = c .before .before .before .before .before .before .before .before .before .args in
-    (sym (front-as gateway (a .hash) (a .cells .now) (a .out .now) (counted.Refused _) (sym (c .before .before .before .before .before .list .ensures .0) ∙ c .before .enum-told .given .1)), refl)
+    let a = c .before .before .before .before .before .before .before .before .before .args in (
+      sym (front-as (modelOf (a .device)) (a .hash) (a .cells .now) (a .out .now) (counted.Refused _)
+          (sym (c .before .before .before .before .before .list .ensures .0) ∙ c .before .enum-told .given .1)),
+      refl,
+    )
 
 pub list-front-spec : {M : Type 1} → statement M
 list-front-spec =

@@ -3,18 +3,19 @@ use Prim.Native.Nat.{_≤_, _-_}
 use native.Mathlib.Omega.{arith}
 use borrow.Author.Needs.{needs}
 use Rattle.orders.specs.Orders.{ordersOf}
+use Rattle.state.specs.Model.{modelOf}
 use Rattle.numbered.specs.Lists.{fewest}
 use Rattle.singly.proofs.Singly.{Singly, singly-none, ordered-next, turned-next, closed-next}
 use Rattle.singly.proofs.run_singly.Statement.{statement}
 use Rattle.singly.proofs.run_singly.Tie as tie
 
 abbrev Inv-loop : tie.InvT-loop
-Inv-loop cells₀ order-keys order-prices order-workers ops lines workers keys answers₀ all next₀ i₀ cells answers next i =
+Inv-loop device cells₀ order-keys order-prices order-workers ops lines workers keys answers₀ all next₀ i₀ cells answers next i =
     (all ≡ fewest ops lines workers keys answers₀)
-    × (i ≤ all) × Singly (ordersOf order-keys order-prices order-workers) ops lines workers keys next₀ cells₀ answers₀ i next cells answers
+    × (i ≤ all) × Singly (modelOf device) (ordersOf order-keys order-prices order-workers) ops lines workers keys next₀ cells₀ answers₀ i next cells answers
 
 abbrev μ-loop : tie.MeasureT-loop
-μ-loop cells₀ order-keys order-prices order-workers ops lines workers keys answers₀ all next₀ i₀ cells answers next i = all - i
+μ-loop device cells₀ order-keys order-prices order-workers ops lines workers keys answers₀ all next₀ i₀ cells answers next i = all - i
 
 fewest-requires : tie.Need-fewest-requires Inv-loop μ-loop
 fewest-requires c κs = search needs
@@ -24,7 +25,7 @@ loop-holds c =
     let a = c .before .before .before .before .before .before .before .before .before .before .args in (
       c .fewest .ensures,
       omega arith,
-      singly-none (ordersOf (a .order-keys .now) (a .order-prices .now) (a .order-workers .now)) (a .ops .now) (a .lines .now) (a .workers .now) (a .keys .now) (a .phase)
+      singly-none (modelOf (a .device)) (ordersOf (a .order-keys .now) (a .order-prices .now) (a .order-workers .now)) (a .ops .now) (a .lines .now) (a .workers .now) (a .keys .now) (a .phase)
           (a .cells .now) (a .answers .now),
     )
 
@@ -74,7 +75,7 @@ mul-answers : tie.Need-mul-answers Inv-loop μ-loop
 mul-answers c =
     let at = c .before .before .before .before .before .before .before .before .before .before in
     let f = at .before .before .before .before .before .before .before .before .before .before .before in
-    omega (arith, f .good .1 .1 .1 .1 .1 .1 .1 .1 .1 .0, at .loop .inv .2 .same-answers)
+    omega (arith, f .good .1 .1 .1 .1 .1 .1 .1 .1 .1 .1 .0, at .loop .inv .2 .same-answers)
 
 slice-write-answers : tie.Need-slice-write-answers Inv-loop μ-loop
 slice-write-answers c = omega (arith, c .before .before .before .before .before .before .before .before .before .before .loop .inv .2 .same-answers)
@@ -101,7 +102,7 @@ mul-answers-2 : tie.Need-mul-answers-2 Inv-loop μ-loop
 mul-answers-2 c =
     let at = c .before .before .before .before .before .before .before .before .before .before .before .before .before in
     let f = at .before .before .before .before .before .before .before .before .before .before .before in
-    omega (arith, f .good .1 .1 .1 .1 .1 .1 .1 .1 .1 .0, at .loop .inv .2 .same-answers)
+    omega (arith, f .good .1 .1 .1 .1 .1 .1 .1 .1 .1 .1 .0, at .loop .inv .2 .same-answers)
 
 slice-write-answers-2 : tie.Need-slice-write-answers-2 Inv-loop μ-loop
 slice-write-answers-2 c =
@@ -129,7 +130,7 @@ mul-answers-3 : tie.Need-mul-answers-3 Inv-loop μ-loop
 mul-answers-3 c =
     let at = c .before .before .before .before .before .before .before .before .before .before in
     let f = at .before .before .before .before .before .before .before .before .before .before .before in
-    omega (arith, f .good .1 .1 .1 .1 .1 .1 .1 .1 .1 .0, at .loop .inv .2 .same-answers)
+    omega (arith, f .good .1 .1 .1 .1 .1 .1 .1 .1 .1 .1 .0, at .loop .inv .2 .same-answers)
 
 slice-write-answers-3 : tie.Need-slice-write-answers-3 Inv-loop μ-loop
 slice-write-answers-3 c = omega (arith, c .before .before .before .before .before .before .before .before .before .before .loop .inv .2 .same-answers)

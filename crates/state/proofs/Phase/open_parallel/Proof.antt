@@ -1,6 +1,7 @@
+use Rattle.state.specs.Model.{modelOf}
 use mathlib.Core.Path.{sym, _∙_}
 use native.Mathlib.Omega.{arith}
-use Rattle.state.proofs.Opening.{read-limits, front-length, parallel-early, parallel-late}
+use Rattle.state.proofs.Opening.{read-bounds, front-length, parallel-early, parallel-late}
 use borrow.Author.Needs.{needs}
 use Rattle.state.proofs.Phase.open_parallel.Statement.{statement}
 use Rattle.state.proofs.Phase.open_parallel.Tie as tie
@@ -14,7 +15,7 @@ reads-list-requires c κs = search needs
 cast-fault-of : tie.Need-cast-fault-of
 cast-fault-of c =
     let a = c .before .before .before .before .before .before .before .args in
-    let h = read-limits (a .kind) (a .crew) (a .hash) (a .cells .now) (c .before .before .lines-of .result) (sym (c .before .reads-list .ensures) ∙ c .if1 .taken) in omega arith
+    let h = read-bounds (a .device) (a .kind) (a .crew) (a .hash) (a .cells .now) (c .before .before .lines-of .result) (sym (c .before .reads-list .ensures) ∙ c .if1 .taken) in omega arith
 
 fault-of-requires : tie.Need-fault-of-requires
 fault-of-requires c κs = search needs
@@ -27,19 +28,19 @@ slice-aggregate-crowded c =
 crowded-requires : tie.Need-crowded-requires
 crowded-requires c κs =
     let a = c .before .before .before .before .before .before .before .before .before .args in
-    read-limits (a .kind) (a .crew) (a .hash) (a .cells .now) (c .before .before .before .before .lines-of .result)
-    (sym (c .before .before .before .reads-list .ensures) ∙ c .before .before .if1 .taken) .1 .0
+    read-bounds (a .device) (a .kind) (a .crew) (a .hash) (a .cells .now) (c .before .before .before .before .lines-of .result)
+    (sym (c .before .before .before .reads-list .ensures) ∙ c .before .before .if1 .taken) .0
 
 opened-late-requires : tie.Need-opened-late-requires
 opened-late-requires c κs =
     let a = c .before .before .before .before .before .before .before .before .before .before .args in
-    read-limits (a .kind) (a .crew) (a .hash) (a .cells .now) (c .before .before .before .before .before .lines-of .result)
-    (sym (c .before .before .before .before .reads-list .ensures) ∙ c .before .before .before .if1 .taken) .1
+    read-bounds (a .device) (a .kind) (a .crew) (a .hash) (a .cells .now) (c .before .before .before .before .before .lines-of .result)
+    (sym (c .before .before .before .before .reads-list .ensures) ∙ c .before .before .before .if1 .taken)
 
 returns : tie.Need-returns
 returns c =
     let a = c .before .before .before .before .before .before .before .before .before .before .before .args in
-    parallel-late (a .kind) (a .crew) (a .hash) (a .cells .now) (a .keys .now) (a .prices .now) (a .workers .now) _
+    parallel-late (modelOf (a .device)) (a .kind) (a .crew) (a .hash) (a .cells .now) (a .keys .now) (a .prices .now) (a .workers .now) _
     (c .before .before .before .before .before .before .lines-of .ensures) _ _ _
     (sym (c .before .before .before .before .before .reads-list .ensures) ∙ c .before .before .before .before .if1 .taken)
     (c .before .before .before .fault-of .ensures) (c .before .crowded .ensures) (c .opened-late .ensures)
@@ -50,7 +51,7 @@ opened-early-requires c κs = search needs
 returns-2 : tie.Need-returns-2
 returns-2 c =
     let a = c .before .before .before .before .before .before .before .before .args in
-    parallel-early (a .kind) (a .crew) (a .hash) (a .cells .now) (a .keys .now) (a .prices .now) (a .workers .now) _ (c .before .before .before .lines-of .ensures) _
+    parallel-early (modelOf (a .device)) (a .kind) (a .crew) (a .hash) (a .cells .now) (a .keys .now) (a .prices .now) (a .workers .now) _ (c .before .before .before .lines-of .ensures) _
     (sym (c .before .before .reads-list .ensures) ∙ c .before .if1 .left) (c .opened-early .ensures)
 
 pub open-parallel-spec : {M : Type 1} → statement M

@@ -5,9 +5,10 @@ use native.Mathlib.Omega.{arith}
 use borrow.Author.Needs.{needs}
 use borrow.Author.Tests.{not-true, not-false}
 use Rattle.ring.proofs.Tests.{within-says}
-use Rattle.state.specs.Model.{gateway}
+use Rattle.state.specs.Model.{modelOf}
 use Rattle.state.specs.Stages.{earlyBars}
 use Rattle.state.specs.declared.Refusal.the-variants.{Size, Crew, Kind, LongList, Even}
+use Rattle.state.proofs.Model.{cells-bounded, crew-bounded}
 use Rattle.state.proofs.Opening.{open-refused, open-accepted, early-by}
 use Rattle.state.proofs.Phase.opened_early.Statement.{statement}
 use Rattle.state.proofs.Phase.opened_early.Tie as tie
@@ -22,7 +23,8 @@ returns : tie.Need-returns
 returns c =
     let size = c .before in
     let a = size .before .before .before .args in
-    open-refused gateway (a .kind) (a .crew) (a .hash) (a .cells .now) (earlyBars gateway (a .kind) (a .crew) (a .hash) (a .cells .now) (a .lines)) _ Size (c .refused .ensures)
+    open-refused (modelOf (a .device)) (a .kind) (a .crew) (a .hash) (a .cells .now)
+    (earlyBars (modelOf (a .device)) (a .kind) (a .crew) (a .hash) (a .cells .now) (a .lines)) _ Size (c .refused .ensures)
     (simp (sym (size .before .size-ok .ensures) ∙ not-true _ (size .if1 .taken)))
 
 crew-ok-requires : tie.Need-crew-ok-requires
@@ -36,7 +38,8 @@ returns-2 c =
     let crew = c .before in
     let size = crew .before .before in
     let a = size .before .before .before .args in
-    open-refused gateway (a .kind) (a .crew) (a .hash) (a .cells .now) (earlyBars gateway (a .kind) (a .crew) (a .hash) (a .cells .now) (a .lines)) _ Crew (c .refused2 .ensures)
+    open-refused (modelOf (a .device)) (a .kind) (a .crew) (a .hash) (a .cells .now)
+    (earlyBars (modelOf (a .device)) (a .kind) (a .crew) (a .hash) (a .cells .now) (a .lines)) _ Crew (c .refused2 .ensures)
     (simp (sym (size .before .size-ok .ensures) ∙ not-false _ (size .if1 .left), sym (crew .before .crew-ok .ensures) ∙ not-true _ (crew .if2 .taken)))
 
 kind-ok-requires : tie.Need-kind-ok-requires
@@ -51,7 +54,8 @@ returns-3 c =
     let crew = kind .before .before in
     let size = crew .before .before in
     let a = size .before .before .before .args in
-    open-refused gateway (a .kind) (a .crew) (a .hash) (a .cells .now) (earlyBars gateway (a .kind) (a .crew) (a .hash) (a .cells .now) (a .lines)) _ Kind (c .refused3 .ensures)
+    open-refused (modelOf (a .device)) (a .kind) (a .crew) (a .hash) (a .cells .now)
+    (earlyBars (modelOf (a .device)) (a .kind) (a .crew) (a .hash) (a .cells .now) (a .lines)) _ Kind (c .refused3 .ensures)
     (simp (
       sym (size .before .size-ok .ensures) ∙ not-false _ (size .if1 .left),
       sym (crew .before .crew-ok .ensures) ∙ not-false _ (crew .if2 .left),
@@ -71,7 +75,8 @@ returns-4 c =
     let crew = kind .before .before in
     let size = crew .before .before in
     let a = size .before .before .before .args in
-    open-refused gateway (a .kind) (a .crew) (a .hash) (a .cells .now) (earlyBars gateway (a .kind) (a .crew) (a .hash) (a .cells .now) (a .lines)) _ Even (c .refused4 .ensures)
+    open-refused (modelOf (a .device)) (a .kind) (a .crew) (a .hash) (a .cells .now)
+    (earlyBars (modelOf (a .device)) (a .kind) (a .crew) (a .hash) (a .cells .now) (a .lines)) _ Even (c .refused4 .ensures)
     (simp (
       sym (size .before .size-ok .ensures) ∙ not-false _ (size .if1 .left),
       sym (crew .before .crew-ok .ensures) ∙ not-false _ (crew .if2 .left),
@@ -93,7 +98,8 @@ returns-5 c =
     let crew = kind .before .before in
     let size = crew .before .before in
     let a = size .before .before .before .args in
-    open-refused gateway (a .kind) (a .crew) (a .hash) (a .cells .now) (earlyBars gateway (a .kind) (a .crew) (a .hash) (a .cells .now) (a .lines)) _ LongList (c .refused5 .ensures)
+    open-refused (modelOf (a .device)) (a .kind) (a .crew) (a .hash) (a .cells .now)
+    (earlyBars (modelOf (a .device)) (a .kind) (a .crew) (a .hash) (a .cells .now) (a .lines)) _ LongList (c .refused5 .ensures)
     (simp (
       sym (size .before .size-ok .ensures) ∙ not-false _ (size .if1 .left),
       sym (crew .before .crew-ok .ensures) ∙ not-false _ (crew .if2 .left),
@@ -109,7 +115,7 @@ soundness-requires c κs =
     let crew = kind .before .before in
     let size = crew .before .before in
     let a = size .before .before .before .args in
-    within-says _ _ (length (a .cells .now)) .0 (sym (size .before .size-ok .ensures) ∙ not-false _ (size .if1 .left)) .1
+    cells-bounded (a .device) (length (a .cells .now)) (sym (size .before .size-ok .ensures) ∙ not-false _ (size .if1 .left))
 
 enum-known-sound : tie.Need-enum-known-sound
 enum-known-sound c = search needs
@@ -128,8 +134,9 @@ returns-6 c =
     let crew = kind .before .before in
     let size = crew .before .before in
     let a = size .before .before .before .args in
-    open-refused gateway (a .kind) (a .crew) (a .hash) (a .cells .now) (earlyBars gateway (a .kind) (a .crew) (a .hash) (a .cells .now) (a .lines)) _ _ (c .refused6 .ensures)
-    (early-by (a .kind) (a .crew) (a .hash) (a .cells .now) (a .lines)
+    open-refused (modelOf (a .device)) (a .kind) (a .crew) (a .hash) (a .cells .now)
+    (earlyBars (modelOf (a .device)) (a .kind) (a .crew) (a .hash) (a .cells .now) (a .lines)) _ _ (c .refused6 .ensures)
+    (early-by (modelOf (a .device)) (a .kind) (a .crew) (a .hash) (a .cells .now) (a .lines)
     (sym (size .before .size-ok .ensures) ∙ not-false _ (size .if1 .left))
     (sym (crew .before .crew-ok .ensures) ∙ not-false _ (crew .if2 .left))
     (sym (kind .before .kind-ok .ensures) ∙ not-false _ (kind .if3 .left))
@@ -156,7 +163,7 @@ cast-fresh-2 c =
     let crew = kind .before .before in
     let size = crew .before .before in
     let a = size .before .before .before .args in
-    let h = within-says _ _ (length (a .cells .now)) .0 (sym (size .before .size-ok .ensures) ∙ not-false _ (size .if1 .left)) in
+    let h = cells-bounded (a .device) (length (a .cells .now)) (sym (size .before .size-ok .ensures) ∙ not-false _ (size .if1 .left)) in
     omega arith
 
 cast-fresh-3 : tie.Need-cast-fresh-3
@@ -167,7 +174,7 @@ cast-fresh-3 c =
     let crew = kind .before .before in
     let size = crew .before .before in
     let a = size .before .before .before .args in
-    let h = within-says _ _ (a .crew) .0 (sym (crew .before .crew-ok .ensures) ∙ not-false _ (crew .if2 .left)) in
+    let h = crew-bounded (a .device) (a .crew) (sym (crew .before .crew-ok .ensures) ∙ not-false _ (crew .if2 .left)) in
     omega arith
 
 fresh-requires : tie.Need-fresh-requires
@@ -181,8 +188,9 @@ returns-7 c =
     let crew = kind .before .before in
     let size = crew .before .before in
     let a = size .before .before .before .args in
-    open-accepted gateway (a .kind) (a .crew) (a .hash) (a .cells .now) (earlyBars gateway (a .kind) (a .crew) (a .hash) (a .cells .now) (a .lines)) _ (c .fresh .ensures)
-    (early-by (a .kind) (a .crew) (a .hash) (a .cells .now) (a .lines)
+    open-accepted (modelOf (a .device)) (a .kind) (a .crew) (a .hash) (a .cells .now)
+    (earlyBars (modelOf (a .device)) (a .kind) (a .crew) (a .hash) (a .cells .now) (a .lines)) _ (c .fresh .ensures)
+    (early-by (modelOf (a .device)) (a .kind) (a .crew) (a .hash) (a .cells .now) (a .lines)
     (sym (size .before .size-ok .ensures) ∙ not-false _ (size .if1 .left))
     (sym (crew .before .crew-ok .ensures) ∙ not-false _ (crew .if2 .left))
     (sym (kind .before .kind-ok .ensures) ∙ not-false _ (kind .if3 .left))

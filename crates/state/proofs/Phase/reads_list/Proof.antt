@@ -3,8 +3,9 @@ use mathlib.Core.Path.{sym, ap, _∙_}
 use mathlib.Core.Bool.{true, false}
 use borrow.Author.Needs.{needs}
 use borrow.Author.Tests.{eq-eqb, ne-eqb, lt-ltb, le-ltb, not-true, not-false}
-use Rattle.ring.proofs.Tests.{within-says}
+use Rattle.state.specs.Model.{modelOf}
 use Rattle.state.specs.Stages.{isAccepted}
+use Rattle.state.proofs.Model.{cells-bounded}
 use Rattle.state.proofs.Opening.{reads-by}
 use Rattle.state.proofs.Phase.reads_list.Statement.{statement}
 use Rattle.state.proofs.Phase.reads_list.Tie as tie
@@ -62,7 +63,8 @@ soundness-requires c κs =
     let crew = even .before .before in
     let size = crew .before .before in
     let kind = size .before .before in
-    within-says _ _ (length (kind .before .before .args .cells .now)) .0 (sym (size .before .size-ok .ensures) ∙ not-false _ (size .if2 .left)) .1
+    let a = kind .before .before .args in
+    cells-bounded (a .device) (length (a .cells .now)) (sym (size .before .size-ok .ensures) ∙ not-false _ (size .if2 .left))
 
 enum-told : tie.Need-enum-told
 enum-told c = search needs
@@ -78,7 +80,7 @@ returns-6 c =
     let size = crew .before .before in
     let kind = size .before .before in
     let a = kind .before .before .args in
-    reads-by (a .kind) (a .crew) (a .hash) (a .cells .now) (a .lines) _ true (ap isAccepted (c .enum-told .given .1)) (c .before .before .soundness .ensures)
+    reads-by (modelOf (a .device)) (a .kind) (a .crew) (a .hash) (a .cells .now) (a .lines) _ true (ap isAccepted (c .enum-told .given .1)) (c .before .before .soundness .ensures)
     (eq-eqb _ _ (kind .if1 .left))
     (sym (size .before .size-ok .ensures) ∙ not-false _ (size .if2 .left))
     (sym (crew .before .crew-ok .ensures) ∙ not-false _ (crew .if3 .left))
@@ -93,7 +95,7 @@ returns-7 c =
     let size = crew .before .before in
     let kind = size .before .before in
     let a = kind .before .before .args in
-    reads-by (a .kind) (a .crew) (a .hash) (a .cells .now) (a .lines) _ false (ap isAccepted (c .enum-told2 .given .1)) (c .before .before .soundness .ensures)
+    reads-by (modelOf (a .device)) (a .kind) (a .crew) (a .hash) (a .cells .now) (a .lines) _ false (ap isAccepted (c .enum-told2 .given .1)) (c .before .before .soundness .ensures)
     (eq-eqb _ _ (kind .if1 .left))
     (sym (size .before .size-ok .ensures) ∙ not-false _ (size .if2 .left))
     (sym (crew .before .crew-ok .ensures) ∙ not-false _ (crew .if3 .left))

@@ -1,0 +1,16 @@
+-- The numbers of a run of calls are those of what the run gives.
+use mathlib.Core.Path.{_≡_, ap, _∙_}
+use mathlib.Core.List.{List}
+use Prim.Native.Nat.{ℕ}
+use Rattle.homes.specs.declared.Hash.{Hash}
+use Rattle.orders.specs.declared.Order.{Order}
+use Rattle.state.specs.Model.{Model}
+use Rattle.state.specs.declared.Replied.{Replied}
+use Rattle.numbered.specs.Numbers.{replyAnswer}
+use Rattle.numbered.specs.Batch.{Ran}
+use Rattle.answers.specs.Numbers.{RunNumbers}
+
+pub numbered : {M : Model} {k m : ℕ} {ab : Hash} {t : List ℕ} {os : List Order} {ops lines workers keys out : List ℕ} {ran : Replied} {t′ out′ : List ℕ} {r : ℕ}
+    → r ≡ replyAnswer (ran .reply)
+    → Ran M k m ab t os ops lines workers keys out ran t′ out′ → RunNumbers M k m ab t os ops lines workers keys out r t′ out′
+numbered is ran = record { reply = is ∙ ap replyAnswer (ran .reply); table = ran .gives .table; answers = ran .gives .answers }

@@ -1,3 +1,0 @@
-pub mod Batches
-pub mod Counts
-pub mod Numbering

@@ -1,0 +1,17 @@
+use mathlib.Core.Path.{_∙_, ap}
+use Rattle.answers.specs.Numbers.{countedAnswer}
+use borrow.Author.Needs.{needs}
+use Rattle.kiosk.proofs.vulzegan_kiosk_count.Statement.{statement}
+use Rattle.kiosk.proofs.vulzegan_kiosk_count.Tie as tie
+
+count-requires : tie.Need-count-requires
+count-requires c κs = search needs
+
+counted-answer-requires : tie.Need-counted-answer-requires
+counted-answer-requires c κs = search needs
+
+returns : tie.Need-returns
+returns c = c .counted-answer .ensures ∙ ap countedAnswer (c .before .count .ensures)
+
+pub vulzegan-kiosk-count-spec : {M : Type 1} → statement M
+vulzegan-kiosk-count-spec = tie.close (tie.spec count-requires counted-answer-requires returns)

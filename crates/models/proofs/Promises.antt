@@ -1,0 +1,45 @@
+-- Each model keeps every promise: instances of the theorems, which hold in all models.
+use Rattle.state.specs.Model.{modelOf}
+use Rattle.state.specs.declared.Device.{Device}
+use Rattle.state.specs.declared.Device.the-variants.{Gateway, Kiosk}
+use Rattle.state.specs.Model.{Limited, mostCellsOf, mostWorkersOf}
+use Rattle.state.proofs.Model.{proper, gateway-promise, kiosk-promise}
+use Rattle.protocol.proofs.Homing.{homing}
+use Rattle.protocol.proofs.Keeping.{keeps, each-never-spoilt, places}
+use Rattle.protocol.proofs.Soundness.{sounds}
+use Rattle.protocol.proofs.Theorem.{opens, orders, turns, closes, well-formed, hash-untested}
+use Rattle.tables.proofs.Theorem.{theorem}
+use Rattle.till.proofs.Theorem.{till-promise}
+use Rattle.history.proofs.Theorem.{history, any-lists, keeps-table, refused, fixed, one-table, two-turns}
+use Rattle.models.specs.Promises.{EachPromise}
+
+limits : (d : Device) → Limited (modelOf d) (mostCellsOf d) (mostWorkersOf d)
+limits Gateway = gateway-promise
+limits Kiosk = kiosk-promise
+
+pub each-promise : EachPromise
+each-promise d = record {
+  limits = limits d;
+  opens = opens (modelOf d);
+  orders = orders (modelOf d);
+  turns = turns (modelOf d);
+  homing = homing (modelOf d);
+  closes = closes (modelOf d);
+  tested = well-formed (modelOf d);
+  hash-untested = hash-untested (modelOf d);
+  keeps = keeps (modelOf d) (proper d);
+  never-spoilt = each-never-spoilt d;
+  places = places (modelOf d);
+  sound-words = sounds .words (modelOf d);
+  sound-kinds = sounds .kinds (modelOf d) (proper d);
+  rests = theorem (modelOf d) (proper d);
+  fills = till-promise .fills (modelOf d);
+  fills-three = till-promise .three (modelOf d);
+  calls = history (modelOf d) (proper d);
+  any-lists = any-lists (modelOf d) (proper d);
+  keeps-table = keeps-table (modelOf d) (proper d);
+  refused = λ k m ab t os no cs. refused (modelOf d) k m ab t os no cs .0;
+  fixed = fixed (modelOf d) (modelOf d) (proper d) (proper d);
+  one-table = one-table (modelOf d) (modelOf d) (proper d) (proper d);
+  two-turns = two-turns (modelOf d);
+}

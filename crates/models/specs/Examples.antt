@@ -1,0 +1,122 @@
+-- The kiosk at its limits, computed: numbers of refusals, 0 where there is none, in one row for a row of lengths, crews or records. Beside them the gateway's.
+use mathlib.Core.Path.{_≡_}
+use mathlib.Core.Bool.{true, false}
+use mathlib.Core.List.{List, [], _∷_, map}
+use Prim.Native.Nat.{ℕ}
+use Rattle.homes.specs.Homes.{plain, hashOf}
+use Rattle.text.specs.Bytes.{bytesOf}
+use Rattle.activities.specs.declared.Activity.the-variants.{Reading}
+use Rattle.rule.specs.Schedules.{one, ones}
+use Rattle.state.specs.Counts.{countNumber}
+use Rattle.state.specs.Model.{Model, gateway, kiosk}
+use Rattle.state.specs.Open.{openReply, openCall}
+use Rattle.state.specs.Refusals.{replyNumber}
+use Rattle.state.specs.declared.Phase.{Phase}
+use Rattle.protocol.specs.Calls.{turnNumber, closeCall, orderCall, turnCall, turnTable}
+use Rattle.tables.specs.Calls.{checkCall, countCall, listCall, listAfter, listFront}
+use Rattle.history.specs.History.{after}
+use Rattle.till.specs.Till.{tillCall, tillAfter}
+use Rattle.examples.specs.Forms.{emptyCells, phase, allIdle, busyOne, handedBack, callsOf}
+use Rattle.examples.specs.Examples.{four, sheetItems, sheetPutsIn}
+use Rattle.examples.specs.Corollaries.{together, inSequence, threeItems, threePutIn, priceItems, twoPrice, morePriceItems, threePrice}
+
+-- ---- rows
+abbrev pub lengths : List ℕ
+lengths = 0 ∷ 1 ∷ 2 ∷ 256 ∷ 257 ∷ 300 ∷ []
+
+abbrev pub crews : List ℕ
+crews = 0 ∷ 1 ∷ 4 ∷ 5 ∷ 16 ∷ 17 ∷ []
+
+-- open records of take-out shifts with all workers idle: with 256 cells and 4 workers; of the gateway, with 5 workers, with 257 and with 300 cells; with one
+-- cell; with no worker
+abbrev pub records : List Phase
+records =
+    phase 2 256 4 false allIdle
+    ∷ phase 2 256 5 false allIdle
+    ∷ phase 2 257 4 false allIdle
+    ∷ phase 2 300 4 false allIdle
+    ∷ phase 2 1 4 false allIdle
+    ∷ phase 2 256 0 false allIdle
+    ∷ []
+
+-- a gateway's fifth worker at work; a kiosk's record of that length with its fourth worker at work
+abbrev pub fifthWorks : Phase
+fifthWorks = busyOne 2 5 5 4 (Reading (one 3) 3)
+
+abbrev pub fourthWorks : Phase
+fourthWorks = busyOne 2 5 4 3 (Reading (one 3) 3)
+
+-- ---- what a model answers, for one of a row
+module _ (M : Model) where
+  -- an opening of kind k with one worker on n empty cells; of kind 2 with m workers on 2 empty cells
+  abbrev pub onCells : (k n : ℕ) → ℕ
+  onCells k n = replyNumber (openReply M k 1 plain (emptyCells n) [])
+
+  abbrev pub withCrew : ℕ → ℕ
+  withCrew m = replyNumber (openReply M 2 m plain (emptyCells 2) [])
+
+  -- an opening of kind k with m workers by a on n empty cells
+  abbrev pub inAll : (k m a n : ℕ) → ℕ
+  inAll k m a n = replyNumber (openReply M k m (hashOf a 0) (emptyCells n) [])
+
+  -- an order, a turn on a table of its length and a close, to a record
+  abbrev pub ordered : Phase → ℕ
+  ordered p = replyNumber (orderCall M p [] 0 0 3 .reply)
+
+  abbrev pub turned : Phase → ℕ
+  turned p = turnNumber (turnCall M p (emptyCells (p .length)) 0 .reply)
+
+  abbrev pub closed : Phase → ℕ
+  closed p = replyNumber (closeCall M p .reply)
+
+  -- a till list for m workers
+  abbrev pub read : ℕ → ℕ
+  read m = countNumber (tillCall M (bytesOf "7,1") m 1)
+
+pub record KioskExamples : Type 0 where
+  -- 1 and 257 cells get 1; 2 and 256 open, in every kind; so do check, count and list
+  pub inserts : map (onCells kiosk 1) lengths ≡ 1 ∷ 1 ∷ 0 ∷ 0 ∷ 1 ∷ 1 ∷ []
+  pub deletes : map (onCells kiosk 2) lengths ≡ 1 ∷ 1 ∷ 0 ∷ 0 ∷ 1 ∷ 1 ∷ []
+  pub finds : map (onCells kiosk 3) lengths ≡ 1 ∷ 1 ∷ 0 ∷ 0 ∷ 1 ∷ 1 ∷ []
+  pub checks : map (λ n. replyNumber (checkCall kiosk plain (emptyCells n))) lengths ≡ 1 ∷ 1 ∷ 0 ∷ 0 ∷ 1 ∷ 1 ∷ []
+  pub counts : map (λ n. countNumber (countCall kiosk plain (emptyCells n))) lengths ≡ 1 ∷ 1 ∷ 0 ∷ 0 ∷ 1 ∷ 1 ∷ []
+  pub lists : map (λ n. countNumber (listCall kiosk plain (emptyCells n) [])) lengths ≡ 1 ∷ 1 ∷ 0 ∷ 0 ∷ 1 ∷ 1 ∷ []
+  pub gateway-cells : map (onCells gateway 2) lengths ≡ 1 ∷ 1 ∷ 0 ∷ 0 ∷ 0 ∷ 0 ∷ []
+  -- 0 and 5 workers get 2; 1 and 4 open, and have a till list read
+  pub workers : map (withCrew kiosk) crews ≡ 2 ∷ 0 ∷ 0 ∷ 2 ∷ 2 ∷ 2 ∷ []
+  pub tills : map (read kiosk) crews ≡ 2 ∷ 0 ∷ 0 ∷ 2 ∷ 2 ∷ 2 ∷ []
+  pub gateway-workers : map (withCrew gateway) crews ≡ 2 ∷ 0 ∷ 0 ∷ 0 ∷ 0 ∷ 2 ∷ []
+  pub gateway-tills : map (read gateway) crews ≡ 2 ∷ 0 ∷ 0 ∷ 0 ∷ 0 ∷ 2 ∷ []
+  -- what an opening hands back, accepted and refused: the same record in both models
+  pub opened : openCall kiosk 2 4 plain (emptyCells 256) [] .phase ≡ phase 2 256 4 false allIdle
+  pub refused : openCall kiosk 2 5 plain (emptyCells 256) [] .phase ≡ handedBack
+  -- first to apply wins: 1 and 2 by the kiosk's limits come before 3 and 21
+  pub size-first : inAll kiosk 4 5 2 257 ≡ 1
+  pub crew-next : inAll kiosk 4 5 2 256 ≡ 2
+  pub kind-next : inAll kiosk 4 4 2 256 ≡ 3
+  pub even-next : inAll kiosk 2 4 2 256 ≡ 21
+  -- records of the gateway with 5 workers, or with 257 or 300 cells, are spoilt to the kiosk, whose own are spoilt to neither
+  pub orders : map (ordered kiosk) records ≡ 0 ∷ 13 ∷ 13 ∷ 13 ∷ 13 ∷ 13 ∷ []
+  pub turns : map (turned kiosk) records ≡ 0 ∷ 13 ∷ 13 ∷ 13 ∷ 13 ∷ 13 ∷ []
+  pub closes : map (closed kiosk) records ≡ 0 ∷ 13 ∷ 13 ∷ 13 ∷ 13 ∷ 13 ∷ []
+  pub gateway-orders : map (ordered gateway) records ≡ 0 ∷ 0 ∷ 0 ∷ 0 ∷ 13 ∷ 13 ∷ []
+  pub gateway-turns : map (turned gateway) records ≡ 0 ∷ 0 ∷ 0 ∷ 0 ∷ 13 ∷ 13 ∷ []
+  pub gateway-closes : map (closed gateway) records ≡ 0 ∷ 0 ∷ 0 ∷ 0 ∷ 13 ∷ 13 ∷ []
+  -- a turn of the gateway's fifth worker is refused and changes nothing; one of the fourth is the gateway's
+  pub fifth : turnNumber (turnCall kiosk fifthWorks four 4 .reply) ≡ 13
+  pub fifth-kept : turnCall kiosk fifthWorks four 4 .phase ≡ fifthWorks
+  pub fifth-cells : turnTable kiosk fifthWorks four 4 ≡ four
+  pub fourth : turnCall kiosk fourthWorks four 3 ≡ turnCall gateway fourthWorks four 3
+  -- the sheet's shift in the kiosk, and its table listed there
+  pub shift : after kiosk 1 2 plain (emptyCells 5) sheetItems (callsOf sheetPutsIn) .table ≡ four
+  pub shut : after kiosk 1 2 plain (emptyCells 5) sheetItems (callsOf sheetPutsIn) .closed ≡ true
+  pub listed : listAfter kiosk plain four (70 ∷ 71 ∷ 72 ∷ 73 ∷ 74 ∷ []) ≡ one 4 ∷ one 3 ∷ one 13 ∷ one 8 ∷ 74 ∷ []
+  pub front : listFront kiosk plain four (70 ∷ 71 ∷ 72 ∷ 73 ∷ 74 ∷ []) ≡ ones (4 ∷ 3 ∷ 13 ∷ 8 ∷ [])
+  pub till-list : tillAfter kiosk (bytesOf "3,1\r\n8,1\r\n13,1\r\n4,1\r\n") 2 sheetItems ≡ sheetItems
+
+-- ---- a table that both may open closes alike in both, by other turns, other workers and other lists: put in, with prices, and taken out. By the promise
+pub record ClosesAlike : Type 0 where
+  pub put-in : after kiosk 1 2 plain (emptyCells 5) sheetItems (callsOf sheetPutsIn) .table
+      ≡ after gateway 1 3 plain (emptyCells 5) threeItems threePutIn .table
+  pub prices : after kiosk 1 2 plain (emptyCells 5) priceItems twoPrice .table ≡ after gateway 1 3 plain (emptyCells 5) morePriceItems threePrice .table
+  pub take-out : after kiosk 2 2 plain four [] together .table ≡ after gateway 2 1 plain four [] inSequence .table

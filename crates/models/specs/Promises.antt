@@ -1,0 +1,62 @@
+-- The promises on calls of one model in one place, so that it is seen that the kiosk has every promise that the gateway has. Proved in proofs/Promises.
+-- Left out are those that no caller of a model sees by themselves: one worker apart from its record (`SplitPromise`), and answers and calls as numbers
+-- (crates `numbered` and `answers`), which are stated there for every model, or for both.
+use mathlib.Core.Path.{_≡_}
+use mathlib.Core.Logic.{_≢_, _↔_}
+use mathlib.Core.Bool.{true}
+use mathlib.Core.List.{List}
+use Prim.Native.Nat.{ℕ}
+use lib.ListN.{length}
+use Rattle.homes.specs.declared.Hash.{Hash}
+use Rattle.orders.specs.declared.Order.{Order}
+use Rattle.state.specs.Model.{Model, modelOf, Limited, mostCellsOf, mostWorkersOf}
+use Rattle.state.specs.Open.{openReply, refusedPhase}
+use Rattle.state.specs.declared.Device.{Device}
+use Rattle.state.specs.declared.Phase.{Phase}
+use Rattle.state.specs.declared.Reply.the-variants.{Accepted}
+use Rattle.protocol.specs.Calls.{turnNumber, turnCall}
+use Rattle.flaws.specs.Promise.{Intact}
+use Rattle.protocol.specs.IsWellFormed.{isWellFormed}
+use Rattle.protocol.specs.Promise.{Made, Openings, Orders, Turns, Homing, Closings, withHash, Keeps, SoundIn, Soundness, GappedIn, DisorderedIn}
+use Rattle.protocol.specs.WellFormed.{WellFormed}
+use Rattle.tables.specs.Promise.{AtRest}
+use Rattle.history.specs.History.{Call, Lent, after}
+use Rattle.history.specs.Promise.{Claim, AnyLists, KeepsTable, TwoTurns, OneTable, Fixed}
+use Rattle.till.specs.Promise.{Fills, FillsThree}
+
+pub record Promises (M : Model) (most crews : ℕ) : Type 0 where
+  -- its limits, and its homes
+  pub limits : Limited M most crews
+  -- demand 1: each call, on every table, record and number, does the work named or gives one of its refusals in their sequence
+  pub opens : (k m : ℕ) (ab : Hash) (t : List ℕ) (os : List Order) → Openings M k m ab t os
+  pub orders : (p : Phase) (os : List Order) (i w v : ℕ) → Orders M p os i w v
+  pub turns : (p : Phase) (t : List ℕ) (w : ℕ) → Turns M p t w
+  pub homing : (p : Phase) (t : List ℕ) (w : ℕ) → turnNumber (turnCall M p t w .reply) ≡ 0 → p .kind ≡ 2 → Homing M p t w
+  pub closes : (p : Phase) → Closings M p
+  -- the test for 13 is document 01's sentence, and doesn't look at a and b; no call spoils a record
+  pub tested : (p : Phase) → isWellFormed M p ≡ true ↔ WellFormed M p
+  pub hash-untested : (p : Phase) (ab : Hash) → WellFormed M (withHash p ab) ↔ WellFormed M p
+  pub keeps : (p : Phase) → WellFormed M p → Keeps M p
+  pub never-spoilt : (p : Phase) → Made M p → WellFormed M p
+  pub places : (p : Phase) → Made M p → length (p .workers) ≡ M .room
+  -- demand 2: sound tables in document 01's words, and the three kinds of unsound; check, count and list say the truth
+  pub sound-words : (ab : Hash) (t : List ℕ) → SoundIn M ab t ↔ Soundness M ab t
+  pub sound-kinds : (ab : Hash) (t : List ℕ) → Soundness M ab t ↔ (Intact t × (GappedIn M ab t → ⊥) × (DisorderedIn M ab t → ⊥))
+  pub rests : (ab : Hash) (t out : List ℕ) → AtRest M ab t out
+  -- till lists, lent as one list or as three
+  pub fills : (text : List ℕ) (m : ℕ) (old : List Order) → Fills M text m old
+  pub fills-three : (text : List ℕ) (m : ℕ) (keys prices workers : List ℕ) → FillsThree M text m keys prices workers
+  -- demand 3: every list of calls; two lists closed alike; two turns
+  pub calls : (k m : ℕ) (ab : Hash) (t : List ℕ) (os : List Order) → openReply M k m ab t os ≡ Accepted → (cs : List Call) → Claim M k m ab t os cs
+  pub any-lists : (k m : ℕ) (ab : Hash) (t : List ℕ) (os : List Order) → openReply M k m ab t os ≡ Accepted → (cs : List Lent)
+      → AnyLists M k m ab t os cs
+  pub keeps-table : (k m : ℕ) (ab : Hash) (t : List ℕ) (os : List Order) → openReply M k m ab t os ≡ Accepted → KeepsTable M k m ab t os
+  pub refused : (k m : ℕ) (ab : Hash) (t : List ℕ) (os : List Order) → openReply M k m ab t os ≢ Accepted → (cs : List Call)
+      → after M k m ab t os cs .phase ≡ refusedPhase M
+  pub fixed : Fixed M M
+  pub one-table : OneTable M M
+  pub two-turns : TwoTurns M
+
+-- each of the documents' models keeps them all, within its limits
+abbrev pub EachPromise : Type 0
+EachPromise = (d : Device) → Promises (modelOf d) (mostCellsOf d) (mostWorkersOf d)

@@ -1,0 +1,91 @@
+-- The kiosk is the gateway within tighter limits: what it refuses by them, and that all else is the same in both. Proved in proofs/Within.
+use mathlib.Core.Path.{_≡_}
+use mathlib.Core.Logic.{_↔_}
+use mathlib.Core.List.{List, []}
+use Prim.Native.Nat.{ℕ, _≤_}
+use lib.ListN.{length}
+use Rattle.homes.specs.declared.Hash.{Hash}
+use Rattle.orders.specs.declared.Order.{Order}
+use Rattle.state.specs.Counts.{countNumber}
+use Rattle.state.specs.Model.{gateway, kiosk}
+use Rattle.state.specs.Open.{openReply, openCall, refusedPhase}
+use Rattle.state.specs.Refusals.{replyNumber}
+use Rattle.state.specs.declared.Phase.{Phase}
+use Rattle.state.specs.declared.Reply.the-variants.{Accepted}
+use Rattle.protocol.specs.Calls.{turnNumber, closeCall, orderCall, turnCall, turnTable}
+use Rattle.protocol.specs.WellFormed.{WellFormed}
+use Rattle.tables.specs.Calls.{checkCall, countCall, listCall, listAfter, listFront}
+use Rattle.history.specs.History.{Call, Lent, opening, after, afterLent}
+use Rattle.history.specs.Promise.{OneTable, Fixed}
+use Rattle.numbered.specs.Lists.{answersOf}
+use Rattle.till.specs.Till.{tillCall, tillAfter, keysAfter, pricesAfter, workersAfter}
+
+-- ---- the kiosk's limits: n cells, m workers
+abbrev pub Few : ℕ → Type 0
+Few n = (2 ≤ n) × (n ≤ 256)
+
+abbrev pub Crews : ℕ → Type 0
+Crews m = (1 ≤ m) × (m ≤ 4)
+
+-- ---- outside them its calls answer 1, 2 and 13, whatever else is wrong, and change nothing
+pub record Outside : Type 0 where
+  pub open-size : (k m : ℕ) (ab : Hash) (t : List ℕ) (os : List Order) → (Few (length t) → ⊥) → replyNumber (openReply kiosk k m ab t os) ≡ 1
+  pub open-crew : (k m : ℕ) (ab : Hash) (t : List ℕ) (os : List Order) → Few (length t) → (Crews m → ⊥) → replyNumber (openReply kiosk k m ab t os) ≡ 2
+  pub check : (ab : Hash) (t : List ℕ) → (Few (length t) → ⊥) → replyNumber (checkCall kiosk ab t) ≡ 1
+  pub count : (ab : Hash) (t : List ℕ) → (Few (length t) → ⊥) → countNumber (countCall kiosk ab t) ≡ 1
+  pub list : (ab : Hash) (t out : List ℕ) → (Few (length t) → ⊥) → (countNumber (listCall kiosk ab t out) ≡ 1) × (listAfter kiosk ab t out ≡ out)
+  pub front : (ab : Hash) (t out : List ℕ) → (Few (length t) → ⊥) → listFront kiosk ab t out ≡ []
+  pub till : (text : List ℕ) (m places : ℕ) → (Crews m → ⊥) → countNumber (tillCall kiosk text m places) ≡ 2
+  pub till-kept : (text : List ℕ) (m : ℕ) (old : List Order) → (Crews m → ⊥) → tillAfter kiosk text m old ≡ old
+  pub till-three : (text : List ℕ) (m : ℕ) (ks ps ws : List ℕ) → (Crews m → ⊥)
+      → (keysAfter kiosk text m ks ps ws ≡ ks) × (pricesAfter kiosk text m ks ps ws ≡ ps) × (workersAfter kiosk text m ks ps ws ≡ ws)
+  -- a record is spoilt to the kiosk exactly if it is spoilt to the gateway, or is of more than 256 cells or 4 workers
+  pub formed : (p : Phase) → WellFormed kiosk p ↔ (WellFormed gateway p × (p .length ≤ 256) × (p .crew ≤ 4))
+  pub order : (p : Phase) (os : List Order) (i w v : ℕ) → (WellFormed kiosk p → ⊥)
+      → (replyNumber (orderCall kiosk p os i w v .reply) ≡ 13) × (orderCall kiosk p os i w v .phase ≡ p)
+  pub turn : (p : Phase) (t : List ℕ) (w : ℕ) → (WellFormed kiosk p → ⊥)
+      → (turnNumber (turnCall kiosk p t w .reply) ≡ 13) × (turnCall kiosk p t w .phase ≡ p) × (turnTable kiosk p t w ≡ t)
+  pub close : (p : Phase) → (WellFormed kiosk p → ⊥) → (replyNumber (closeCall kiosk p .reply) ≡ 13) × (closeCall kiosk p .phase ≡ p)
+
+-- ---- inside them its calls are the gateway's
+-- on a table of n cells
+pub record SameTables (ab : Hash) (t : List ℕ) : Type 0 where
+  pub check : checkCall kiosk ab t ≡ checkCall gateway ab t
+  pub count : countCall kiosk ab t ≡ countCall gateway ab t
+  pub list : (out : List ℕ) → listCall kiosk ab t out ≡ listCall gateway ab t out
+  pub after : (out : List ℕ) → listAfter kiosk ab t out ≡ listAfter gateway ab t out
+  pub front : (out : List ℕ) → listFront kiosk ab t out ≡ listFront gateway ab t out
+
+-- on a record
+pub record SameCalls (p : Phase) : Type 0 where
+  pub order : (os : List Order) (i w v : ℕ) → orderCall kiosk p os i w v ≡ orderCall gateway p os i w v
+  pub turn : (t : List ℕ) (w : ℕ) → turnCall kiosk p t w ≡ turnCall gateway p t w
+  pub table : (t : List ℕ) (w : ℕ) → turnTable kiosk p t w ≡ turnTable gateway p t w
+  pub close : closeCall kiosk p ≡ closeCall gateway p
+
+-- of a till list for m workers, lent as one list or as three
+pub record SameTills (text : List ℕ) (m : ℕ) : Type 0 where
+  pub answer : (places : ℕ) → tillCall kiosk text m places ≡ tillCall gateway text m places
+  pub orders : (old : List Order) → tillAfter kiosk text m old ≡ tillAfter gateway text m old
+  pub keys : (ks ps ws : List ℕ) → keysAfter kiosk text m ks ps ws ≡ keysAfter gateway text m ks ps ws
+  pub prices : (ks ps ws : List ℕ) → pricesAfter kiosk text m ks ps ws ≡ pricesAfter gateway text m ks ps ws
+  pub workers : (ks ps ws : List ℕ) → workersAfter kiosk text m ks ps ws ≡ workersAfter gateway text m ks ps ws
+
+pub record Inside : Type 0 where
+  pub openings : (k m : ℕ) (ab : Hash) (t : List ℕ) (os : List Order) → Few (length t) → Crews m → openCall kiosk k m ab t os ≡ openCall gateway k m ab t os
+  pub tables : (ab : Hash) (t : List ℕ) → Few (length t) → SameTables ab t
+  pub tills : (text : List ℕ) (m : ℕ) → Crews m → SameTills text m
+  pub calls : (p : Phase) → WellFormed kiosk p → SameCalls p
+  -- a refused opening hands back the same record
+  pub refused : refusedPhase kiosk ≡ refusedPhase gateway
+  -- an opening that the kiosk accepts the gateway accepts too, and from there every list of calls gets the same answers and leaves the same in both
+  pub accepted : (k m : ℕ) (ab : Hash) (t : List ℕ) (os : List Order) → openReply kiosk k m ab t os ≡ Accepted → openReply gateway k m ab t os ≡ Accepted
+  pub runs : (k m : ℕ) (ab : Hash) (t : List ℕ) (os : List Order) → openReply kiosk k m ab t os ≡ Accepted → (cs : List Call)
+      → after kiosk k m ab t os cs ≡ after gateway k m ab t os cs
+  pub runs-lent : (k m : ℕ) (ab : Hash) (t : List ℕ) (os : List Order) → openReply kiosk k m ab t os ≡ Accepted → (cs : List Lent)
+      → afterLent kiosk k m ab t os cs ≡ afterLent gateway k m ab t os cs
+  pub answers : (k m : ℕ) (ab : Hash) (t : List ℕ) (os : List Order) → openReply kiosk k m ab t os ≡ Accepted → (cs : List Call)
+      → answersOf kiosk os cs (opening kiosk k m ab t os) ≡ answersOf gateway os cs (opening gateway k m ab t os)
+  -- a table that both may open closes alike in both, by whatever other calls with the same orders, and is fixed by what is left
+  pub closes : OneTable kiosk gateway
+  pub fixed : Fixed kiosk gateway

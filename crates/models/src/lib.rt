@@ -1,0 +1,1 @@
+// What each model promises, and the kiosk beside the gateway: definitions and theorems alone.
