@@ -76,11 +76,13 @@ refused-requires-3 c κs = search needs
 
 returns-3 : tie.Need-returns-3 Inv-loop μ-loop
 returns-3 c =
-    let a = c .before .before .before .before .before .before .args in
+    let l = c .before .before .before in
+    let a = l .before .before .before .args in
+    let good = passed-all _ _ _ (l .loop .inv) (modelOf (a .device)) (sym (l .before .before .numbers-ok .ensures) ∙ not-false _ (l .before .if1 .left))
+    (c .before .before .loop-test .left) in
     found-refused (modelOf (a .device)) (a .t2) (a .found) (a .worker) (a .key) _ Shut (c .refused3 .ensures)
     (simp (
-      passed-all _ _ _ (c .before .before .before .loop .inv)
-          (modelOf (a .device)) (sym (c .before .before .before .before .before .numbers-ok .ensures) ∙ not-false _ (c .before .before .before .before .if1 .left)) (c .before .before .loop-test .left),
+      good,
       c .before .if3 .taken,
     ))
 
@@ -93,11 +95,13 @@ refused-requires-4 c κs = search needs
 returns-4 : tie.Need-returns-4 Inv-loop μ-loop
 returns-4 c =
     let d = c .before .before .before in
-    let a = d .before .before .before .before .before .args in
+    let l = d .before .before in
+    let a = l .before .before .before .args in
+    let good = passed-all _ _ _ (l .loop .inv) (modelOf (a .device)) (sym (l .before .before .numbers-ok .ensures) ∙ not-false _ (l .before .if1 .left))
+    (d .before .loop-test .left) in
     asked-refused (modelOf (a .device)) (a .t2) (a .found) (a .worker) (a .key) _ (c .before .before .asked-for .ensures) _ NoLine (c .refused4 .ensures)
     (simp (
-      passed-all _ _ _ (d .before .before .loop .inv)
-          (modelOf (a .device)) (sym (d .before .before .before .before .numbers-ok .ensures) ∙ not-false _ (d .before .before .before .if1 .left)) (d .before .loop-test .left),
+      good,
       d .if3 .left,
       c .before .if4 .taken,
     ))
@@ -111,11 +115,13 @@ refused-requires-5 c κs = search needs
 returns-5 : tie.Need-returns-5 Inv-loop μ-loop
 returns-5 c =
     let d = c .before .before .before .before in
-    let a = d .before .before .before .before .before .args in
+    let l = d .before .before in
+    let a = l .before .before .before .args in
+    let good = passed-all _ _ _ (l .loop .inv) (modelOf (a .device)) (sym (l .before .before .numbers-ok .ensures) ∙ not-false _ (l .before .if1 .left))
+    (d .before .loop-test .left) in
     asked-refused (modelOf (a .device)) (a .t2) (a .found) (a .worker) (a .key) _ (c .before .before .before .asked-for .ensures) _ NoWorker (c .refused5 .ensures)
     (simp (
-      passed-all _ _ _ (d .before .before .loop .inv)
-          (modelOf (a .device)) (sym (d .before .before .before .before .numbers-ok .ensures) ∙ not-false _ (d .before .before .before .if1 .left)) (d .before .loop-test .left),
+      good,
       d .if3 .left,
       c .before .before .if4 .left,
       le-leb _ _ (c .before .if5 .taken),
@@ -127,16 +133,20 @@ mul-one-order c = search needs
 element-copy-out-one-order : tie.Need-element-copy-out-one-order Inv-loop μ-loop
 element-copy-out-one-order c =
     let d = c .before .before .before .before in
-    let a = d .before .before .before .before .before .args in
-    let w = well-formed-says (modelOf (a .device)) (a .t2) .0 (passed-all _ _ _ (d .before .before .loop .inv)
-    (modelOf (a .device)) (sym (d .before .before .before .before .numbers-ok .ensures) ∙ not-false _ (d .before .before .before .if1 .left)) (d .before .loop-test .left)) in omega (arith, most-workers (a .device))
+    let l = d .before .before in
+    let a = l .before .before .before .args in
+    let good = passed-all _ _ _ (l .loop .inv) (modelOf (a .device)) (sym (l .before .before .numbers-ok .ensures) ∙ not-false _ (l .before .if1 .left))
+    (d .before .loop-test .left) in
+    let w = well-formed-says (modelOf (a .device)) (a .t2) .0 good in omega (arith, most-workers (a .device))
 
 one-order-requires : tie.Need-one-order-requires Inv-loop μ-loop
 one-order-requires c κs =
     let d = c .before .before .before .before .before in
-    let a = d .before .before .before .before .before .args in
-    let w = well-formed-says (modelOf (a .device)) (a .t2) .0 (passed-all _ _ _ (d .before .before .loop .inv)
-    (modelOf (a .device)) (sym (d .before .before .before .before .numbers-ok .ensures) ∙ not-false _ (d .before .before .before .if1 .left)) (d .before .loop-test .left)) in omega (arith, most-workers (a .device))
+    let l = d .before .before in
+    let a = l .before .before .before .args in
+    let good = passed-all _ _ _ (l .loop .inv) (modelOf (a .device)) (sym (l .before .before .numbers-ok .ensures) ∙ not-false _ (l .before .if1 .left))
+    (d .before .loop-test .left) in
+    let w = well-formed-says (modelOf (a .device)) (a .t2) .0 good in omega (arith, most-workers (a .device))
 
 mul-next : tie.Need-mul-next Inv-loop μ-loop
 mul-next c = search needs
@@ -144,19 +154,23 @@ mul-next c = search needs
 element-set-from-next : tie.Need-element-set-from-next Inv-loop μ-loop
 element-set-from-next c =
     let d = c .before .before .before .before .before .before .before in
-    let a = d .before .before .before .before .before .args in
-    let w = well-formed-says (modelOf (a .device)) (a .t2) .0 (passed-all _ _ _ (d .before .before .loop .inv)
-    (modelOf (a .device)) (sym (d .before .before .before .before .numbers-ok .ensures) ∙ not-false _ (d .before .before .before .if1 .left)) (d .before .loop-test .left)) in omega (arith, most-workers (a .device))
+    let l = d .before .before in
+    let a = l .before .before .before .args in
+    let good = passed-all _ _ _ (l .loop .inv) (modelOf (a .device)) (sym (l .before .before .numbers-ok .ensures) ∙ not-false _ (l .before .if1 .left))
+    (d .before .loop-test .left) in
+    let w = well-formed-says (modelOf (a .device)) (a .t2) .0 good in omega (arith, most-workers (a .device))
 
 returns-6 : tie.Need-returns-6 Inv-loop μ-loop
 returns-6 c =
     let e = c .before .before .before .before .before .before in
     let d = e .before in
-    let a = d .before .before .before .before .before .args in
+    let l = d .before .before in
+    let a = l .before .before .before .args in
+    let good = passed-all _ _ _ (l .loop .inv) (modelOf (a .device)) (sym (l .before .before .numbers-ok .ensures) ∙ not-false _ (l .before .if1 .left))
+    (d .before .loop-test .left) in
     ap (with-given (a .t2) (e .asked-for .result .worker)) (c .before .one-order .ensures)
     ∙ asked-by-one (modelOf (a .device)) (a .t2) (a .found) (a .worker) (a .key) _ (e .asked-for .ensures)
-    (passed-all _ _ _ (d .before .before .loop .inv)
-    (modelOf (a .device)) (sym (d .before .before .before .before .numbers-ok .ensures) ∙ not-false _ (d .before .before .before .if1 .left)) (d .before .loop-test .left)) (d .if3 .left) (c .before .before .before .before .before .if4 .left)
+    good (d .if3 .left) (c .before .before .before .before .before .if4 .left)
     (c .before .before .before .before .if5 .left)
 
 pub order-found-spec : {M : Type 1} → statement M

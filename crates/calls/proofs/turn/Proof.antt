@@ -57,8 +57,8 @@ returns-2 c =
     let b = c .before .before .before .before .before in
     let a = b .before .before .before .before .args in
     turn-refused (modelOf (a .device)) (a .t2) (a .cells .now) (a .worker) _ Spoilt (c .turn-refused2 .ensures)
-    (simp (fails _ _ _ (b .loop .inv)
-    (modelOf (a .device)) (sym (b .before .before .numbers-ok .ensures) ∙ not-false _ (b .before .if1 .left)) (c .before .before .before .before .loop-test .taken) _ (c .before .before .worker-ok .ensures) (not-true _ (c .before .if2 .taken))))
+    (simp (fails _ _ _ (b .loop .inv) (modelOf (a .device)) (sym (b .before .before .numbers-ok .ensures) ∙ not-false _ (b .before .if1 .left))
+    (c .before .before .before .before .loop-test .taken) _ (c .before .before .worker-ok .ensures) (not-true _ (c .before .if2 .taken))))
 
 add-i : tie.Need-add-i Inv-loop μ-loop
 add-i c = omega arith
@@ -74,11 +74,13 @@ turn-refused-requires-3 c κs = search needs
 
 returns-3 : tie.Need-returns-3 Inv-loop μ-loop
 returns-3 c =
-    let a = c .before .before .before .before .before .before .before .args in
+    let l = c .before .before .before in
+    let a = l .before .before .before .before .args in
+    let good = passed-all _ _ _ (l .loop .inv) (modelOf (a .device)) (sym (l .before .before .numbers-ok .ensures) ∙ not-false _ (l .before .if1 .left))
+    (c .before .before .loop-test .left) in
     turn-refused (modelOf (a .device)) (a .t2) (a .cells .now) (a .worker) _ Shut (c .turn-refused3 .ensures)
     (simp (
-      passed-all _ _ _ (c .before .before .before .loop .inv)
-          (modelOf (a .device)) (sym (c .before .before .before .before .before .numbers-ok .ensures) ∙ not-false _ (c .before .before .before .before .if1 .left)) (c .before .before .loop-test .left),
+      good,
       c .before .if3 .taken,
     ))
 
@@ -90,11 +92,13 @@ turn-refused-requires-4 c κs = search needs
 
 returns-4 : tie.Need-returns-4 Inv-loop μ-loop
 returns-4 c =
-    let a = c .before .before .before .before .before .before .before .before .args in
+    let l = c .before .before .before .before in
+    let a = l .before .before .before .before .args in
+    let good = passed-all _ _ _ (l .loop .inv) (modelOf (a .device)) (sym (l .before .before .numbers-ok .ensures) ∙ not-false _ (l .before .if1 .left))
+    (c .before .before .before .loop-test .left) in
     turn-refused (modelOf (a .device)) (a .t2) (a .cells .now) (a .worker) _ OtherTable (c .turn-refused4 .ensures)
     (simp (
-      passed-all _ _ _ (c .before .before .before .before .loop .inv)
-          (modelOf (a .device)) (sym (c .before .before .before .before .before .before .numbers-ok .ensures) ∙ not-false _ (c .before .before .before .before .before .if1 .left)) (c .before .before .before .loop-test .left),
+      good,
       c .before .before .if3 .left,
       ne-eqb _ _ (c .before .if4 .taken),
     ))
@@ -107,11 +111,13 @@ turn-refused-requires-5 c κs = search needs
 
 returns-5 : tie.Need-returns-5 Inv-loop μ-loop
 returns-5 c =
-    let a = c .before .before .before .before .before .before .before .before .before .args in
+    let l = c .before .before .before .before .before in
+    let a = l .before .before .before .before .args in
+    let good = passed-all _ _ _ (l .loop .inv) (modelOf (a .device)) (sym (l .before .before .numbers-ok .ensures) ∙ not-false _ (l .before .if1 .left))
+    (c .before .before .before .before .loop-test .left) in
     turn-refused (modelOf (a .device)) (a .t2) (a .cells .now) (a .worker) _ NoWorker (c .turn-refused5 .ensures)
     (simp (
-      passed-all _ _ _ (c .before .before .before .before .before .loop .inv)
-          (modelOf (a .device)) (sym (c .before .before .before .before .before .before .before .numbers-ok .ensures) ∙ not-false _ (c .before .before .before .before .before .before .if1 .left)) (c .before .before .before .before .loop-test .left),
+      good,
       c .before .before .before .if3 .left,
       eq-eqb _ _ (c .before .before .if4 .left),
       le-leb _ _ (c .before .if5 .taken),
@@ -123,18 +129,20 @@ mul-one-turn c = search needs
 element-copy-out-one-turn : tie.Need-element-copy-out-one-turn Inv-loop μ-loop
 element-copy-out-one-turn c =
     let d = c .before .before in
-    let a = d .before .before .before .before .before .before .before .before .args in
-    let w = well-formed-says (modelOf (a .device)) (a .t2) .0 (passed-all _ _ _ (d .before .before .before .before .loop .inv)
-    (modelOf (a .device)) (sym (d .before .before .before .before .before .before .numbers-ok .ensures) ∙ not-false _ (d .before .before .before .before .before .if1 .left)) (d .before .before .before .loop-test .left)) in omega (arith, most-workers (a .device))
+    let l = d .before .before .before .before in
+    let a = l .before .before .before .before .args in
+    let good = passed-all _ _ _ (l .loop .inv) (modelOf (a .device)) (sym (l .before .before .numbers-ok .ensures) ∙ not-false _ (l .before .if1 .left))
+    (d .before .before .before .loop-test .left) in
+    let w = well-formed-says (modelOf (a .device)) (a .t2) .0 good in omega (arith, most-workers (a .device))
 
 one-turn-requires : tie.Need-one-turn-requires Inv-loop μ-loop
 one-turn-requires c κs =
     let d = c .before .before .before in
-    let a = d .before .before .before .before .before .before .before .before .args in (
-      good-worker (modelOf (a .device)) (a .t2) (passed-all _ _ _ (d .before .before .before .before .loop .inv)
-          (modelOf (a .device)) (sym (d .before .before .before .before .before .before .numbers-ok .ensures) ∙ not-false _ (d .before .before .before .before .before .if1 .left)) (d .before .before .before .loop-test .left)) (a .worker) (d .if5 .left),
-      d .before .if4 .left,
-    )
+    let l = d .before .before .before .before in
+    let a = l .before .before .before .before .args in
+    let good = passed-all _ _ _ (l .loop .inv) (modelOf (a .device)) (sym (l .before .before .numbers-ok .ensures) ∙ not-false _ (l .before .if1 .left))
+    (d .before .before .before .loop-test .left) in
+    (good-worker (modelOf (a .device)) (a .t2) good (a .worker) (d .if5 .left), d .before .if4 .left)
 
 mul-next : tie.Need-mul-next Inv-loop μ-loop
 mul-next c = search needs
@@ -143,8 +151,9 @@ element-set-from-next : tie.Need-element-set-from-next Inv-loop μ-loop
 element-set-from-next c =
     let b = c .before .before .before .before .before .before in let d = b .before .before .before .before .before in
     let a = d .before .before .before .before .args in
-    let w = well-formed-says (modelOf (a .device)) (a .t2) .0 (passed-all _ _ _ (d .loop .inv)
-    (modelOf (a .device)) (sym (d .before .before .numbers-ok .ensures) ∙ not-false _ (d .before .if1 .left)) (b .before .before .before .before .loop-test .left)) in omega (arith, most-workers (a .device))
+    let good = passed-all _ _ _ (d .loop .inv) (modelOf (a .device)) (sym (d .before .before .numbers-ok .ensures) ∙ not-false _ (d .before .if1 .left))
+    (b .before .before .before .before .loop-test .left) in
+    let w = well-formed-says (modelOf (a .device)) (a .t2) .0 good in omega (arith, most-workers (a .device))
 
 same-length : tie.Need-same-length Inv-loop μ-loop
 same-length c = search needs
@@ -153,9 +162,9 @@ returns-6 : tie.Need-returns-6 Inv-loop μ-loop
 returns-6 c =
     let b = c .before .before .before .before .before .before in let d = b .before .before .before .before .before in
     let a = d .before .before .before .before .args in
-    let one = turn-by-one (modelOf (a .device)) (a .t2) (a .cells .now) (a .worker)
-    (passed-all _ _ _ (d .loop .inv)
-    (modelOf (a .device)) (sym (d .before .before .numbers-ok .ensures) ∙ not-false _ (d .before .if1 .left)) (b .before .before .before .before .loop-test .left))
+    let good = passed-all _ _ _ (d .loop .inv) (modelOf (a .device)) (sym (d .before .before .numbers-ok .ensures) ∙ not-false _ (d .before .if1 .left))
+    (b .before .before .before .before .loop-test .left) in
+    let one = turn-by-one (modelOf (a .device)) (a .t2) (a .cells .now) (a .worker) good
     (b .before .before .before .if3 .left) (b .before .before .if4 .left) (b .before .if5 .left) in (
       ap (with-moved (a .t2) (a .worker)) (c .before .before .before .one-turn .ensures .0) ∙ one .0,
       c .before .before .before .one-turn .ensures .1 ∙ one .1,
