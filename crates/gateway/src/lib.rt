@@ -1,11 +1,9 @@
 // The gateway's calls: those that are handed a record, and functions for C and Rust, numbers and slices alone, which the header vulzegan.h declares.
-use answers::counted_answer;
 use answers::opened_answer;
 use homes::Hash;
 use orders::Found;
 use orders::Order;
 use protocol::Turned;
-use singly::reply_answer;
 use state::Device;
 use state::Phase;
 use state::Replied;
@@ -55,8 +53,7 @@ pub fn list_front<'a>(hash: Hash, cells: &[u64], out: &'a mut [u64]) -> &'a mut 
 pub extern "C" fn vulzegan_check(a: u32, b: u32, cells: &[u64]) -> u64
     ensures { λ r. ⌜ r ≡ replyAnswer (checkCall gateway (hashOf a b) (now (cells .entry))) ⌝ }
 {
-    let checked = rest::check(Device::Gateway, Hash { a, b }, cells);
-    reply_answer(checked)
+    answers::check(Device::Gateway, a, b, cells)
 }
 
 // How many keys the table has.
@@ -64,8 +61,7 @@ pub extern "C" fn vulzegan_check(a: u32, b: u32, cells: &[u64]) -> u64
 pub extern "C" fn vulzegan_count(a: u32, b: u32, cells: &[u64]) -> u64
     ensures { λ r. ⌜ r ≡ countedAnswer (countCall gateway (hashOf a b) (now (cells .entry))) ⌝ }
 {
-    let counted = rest::count(Device::Gateway, Hash { a, b }, cells);
-    counted_answer(counted)
+    answers::count(Device::Gateway, a, b, cells)
 }
 
 // Lists the entries, each key with its price, in cell order at the front of `out`.
@@ -73,8 +69,7 @@ pub extern "C" fn vulzegan_count(a: u32, b: u32, cells: &[u64]) -> u64
 pub extern "C" fn vulzegan_list(a: u32, b: u32, cells: &[u64], out: &mut [u64]) -> u64
     ensures { λ r. ⌜ ListNumbers gateway (hashOf a b) (now (cells .entry)) (now (out .entry)) r (now (out .exit)) ⌝ }
 {
-    let listed = rest::list(Device::Gateway, Hash { a, b }, cells, out);
-    counted_answer(listed)
+    answers::list(Device::Gateway, a, b, cells, out)
 }
 
 // Reads a till list into a list of orders, lent as its keys, its prices and its workers, for a crew of so many: how many records the text has.
@@ -89,8 +84,7 @@ pub extern "C" fn vulzegan_read_till(
     ensures { λ r. ⌜ TillNumbers gateway (now (text .entry)) count (now (keys .entry)) (now (prices .entry)) (now (workers .entry))
         r (now (keys .exit)) (now (prices .exit)) (now (workers .exit)) ⌝ }
 {
-    let read = reading::read_till_parallel(Device::Gateway, text, count, keys, prices, workers);
-    counted_answer(read)
+    answers::read_till(Device::Gateway, text, count, keys, prices, workers)
 }
 
 // Whether a phase may be opened: 0, or the number of the refusal.
@@ -135,11 +129,12 @@ pub extern "C" fn vulzegan_run_calls(
         (ordersOf (now («order_keys» .entry)) (now («order_prices» .entry)) (now («order_workers» .entry)))
         (now (ops .entry)) (now (lines .entry)) (now (workers .entry)) (now (keys .entry)) (now (answers .entry)) ⌝ }
 {
-    let ran = batch::run_calls(
+    answers::run_calls(
         Device::Gateway,
         kind,
         count,
-        Hash { a, b },
+        a,
+        b,
         cells,
         order_keys,
         order_prices,
@@ -149,9 +144,7 @@ pub extern "C" fn vulzegan_run_calls(
         workers,
         keys,
         answers,
-    );
-    let reply = ran.reply;
-    reply_answer(reply)
+    )
 }
 
 // The same, each call by value with the phase tested at each, as single calls are.
@@ -179,11 +172,12 @@ pub extern "C" fn vulzegan_run_calls_singly(
         (ordersOf (now («order_keys» .entry)) (now («order_prices» .entry)) (now («order_workers» .entry)))
         (now (ops .entry)) (now (lines .entry)) (now (workers .entry)) (now (keys .entry)) (now (answers .entry)) ⌝ }
 {
-    let ran = batch::run_calls_singly(
+    answers::run_calls_singly(
         Device::Gateway,
         kind,
         count,
-        Hash { a, b },
+        a,
+        b,
         cells,
         order_keys,
         order_prices,
@@ -193,7 +187,5 @@ pub extern "C" fn vulzegan_run_calls_singly(
         workers,
         keys,
         answers,
-    );
-    let reply = ran.reply;
-    reply_answer(reply)
+    )
 }

@@ -48,7 +48,7 @@ pub record Outside : Type 0 where
   pub close : (p : Phase) → (WellFormed kiosk p → ⊥) → (replyNumber (closeCall kiosk p .reply) ≡ 13) × (closeCall kiosk p .phase ≡ p)
 
 -- ---- inside them its calls are the gateway's
--- on a table of n cells
+-- on a table
 pub record SameTables (ab : Hash) (t : List ℕ) : Type 0 where
   pub check : checkCall kiosk ab t ≡ checkCall gateway ab t
   pub count : countCall kiosk ab t ≡ countCall gateway ab t

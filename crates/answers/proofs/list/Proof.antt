@@ -1,8 +1,8 @@
 use mathlib.Core.Path.{_∙_, ap}
 use Rattle.answers.specs.Numbers.{countedAnswer}
 use borrow.Author.Needs.{needs}
-use Rattle.kiosk.proofs.vulzegan_kiosk_list.Statement.{statement}
-use Rattle.kiosk.proofs.vulzegan_kiosk_list.Tie as tie
+use Rattle.answers.proofs.list.Statement.{statement}
+use Rattle.answers.proofs.list.Tie as tie
 
 list-requires : tie.Need-list-requires
 list-requires c κs = search needs
@@ -18,5 +18,5 @@ returns c =
     let listed = c .before .before .before .list .ensures in
     record { reply = c .counted-answer .ensures ∙ ap countedAnswer (listed .0); list = listed .1 }
 
-pub vulzegan-kiosk-list-spec : {M : Type 1} → statement M
-vulzegan-kiosk-list-spec = tie.close (tie.spec list-requires counted-answer-requires same-length returns)
+pub list-spec : {M : Type 1} → statement M
+list-spec = tie.close (tie.spec list-requires counted-answer-requires same-length returns)

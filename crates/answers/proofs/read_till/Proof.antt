@@ -1,8 +1,8 @@
 use mathlib.Core.Path.{_∙_, ap}
 use borrow.Author.Needs.{needs}
 use Rattle.answers.specs.Numbers.{countedAnswer}
-use Rattle.gateway.proofs.vulzegan_read_till.Statement.{statement}
-use Rattle.gateway.proofs.vulzegan_read_till.Tie as tie
+use Rattle.answers.proofs.read_till.Statement.{statement}
+use Rattle.answers.proofs.read_till.Tie as tie
 
 read-till-parallel-requires : tie.Need-read-till-parallel-requires
 read-till-parallel-requires c κs = search needs
@@ -24,8 +24,8 @@ returns c =
     let (answer, ks, ps, ws) = c .before .before .before .before .before .before .before .read-till-parallel .ensures in
     record { reply = c .counted-answer .ensures ∙ ap countedAnswer answer; keys = ks; prices = ps; workers = ws }
 
-pub vulzegan-read-till-spec : {M : Type 1} → statement M
-vulzegan-read-till-spec =
+pub read-till-spec : {M : Type 1} → statement M
+read-till-spec =
     tie.close
     (tie.spec
     read-till-parallel-requires

@@ -1,8 +1,8 @@
 use mathlib.Core.Path.{_∙_, ap}
 use Rattle.numbered.specs.Numbers.{replyAnswer}
 use borrow.Author.Needs.{needs}
-use Rattle.kiosk.proofs.vulzegan_kiosk_check.Statement.{statement}
-use Rattle.kiosk.proofs.vulzegan_kiosk_check.Tie as tie
+use Rattle.answers.proofs.check.Statement.{statement}
+use Rattle.answers.proofs.check.Tie as tie
 
 check-requires : tie.Need-check-requires
 check-requires c κs = search needs
@@ -13,5 +13,5 @@ reply-answer-requires c κs = search needs
 returns : tie.Need-returns
 returns c = c .reply-answer .ensures ∙ ap replyAnswer (c .before .check .ensures)
 
-pub vulzegan-kiosk-check-spec : {M : Type 1} → statement M
-vulzegan-kiosk-check-spec = tie.close (tie.spec check-requires reply-answer-requires returns)
+pub check-spec : {M : Type 1} → statement M
+check-spec = tie.close (tie.spec check-requires reply-answer-requires returns)

@@ -1,7 +1,7 @@
 use Rattle.answers.proofs.Numbering.{numbered}
 use borrow.Author.Needs.{needs}
-use Rattle.gateway.proofs.vulzegan_run_calls_singly.Statement.{statement}
-use Rattle.gateway.proofs.vulzegan_run_calls_singly.Tie as tie
+use Rattle.answers.proofs.run_calls_singly.Statement.{statement}
+use Rattle.answers.proofs.run_calls_singly.Tie as tie
 
 run-calls-singly-requires : tie.Need-run-calls-singly-requires
 run-calls-singly-requires c κs = search needs
@@ -18,6 +18,6 @@ same-length-2 c = search needs
 returns : tie.Need-returns
 returns c = let ran = c .before .before .before .before .before .run-calls-singly .ensures in (numbered (c .reply-answer .ensures) (ran .0), ran .1)
 
-pub vulzegan-run-calls-singly-spec : {M : Type 1} → statement M
-vulzegan-run-calls-singly-spec =
+pub run-calls-singly-spec : {M : Type 1} → statement M
+run-calls-singly-spec =
     tie.close (tie.spec run-calls-singly-requires reply-answer-requires same-length same-length-2 returns)
