@@ -11,7 +11,7 @@
  * within these limits, and the probe path of every key holds only greater keys.
  * Lend a table with the a and b by which it was closed: by others it is refused, unless it is sound by them too.
  *
- * Every answer is one number of 64 bits: below VULZEGAN_REFUSED it is a value, from there up to VULZEGAN_WORDS a refusal, from there on a word.
+ * The answer of every function is one number of 64 bits: below VULZEGAN_REFUSED it is a value, from there up to VULZEGAN_WORDS a refusal, from there on a word.
  */
 #ifndef VULZEGAN_H
 #define VULZEGAN_H
@@ -26,7 +26,7 @@ extern "C" {
 /* Values: a count, the price that a find found, or VULZEGAN_ACCEPTED where a call gives no value and is not refused. */
 #define VULZEGAN_ACCEPTED UINT64_C(0)
 
-/* Refusals: VULZEGAN_REFUSED + the number of documents 01 and 02, 1 to 21. A refusal changes nothing. */
+/* Refusals: VULZEGAN_REFUSED + the number of documents 01 and 02, 1 to 21; 22 is for a single reply of a round. A refusal changes nothing. */
 #define VULZEGAN_REFUSED UINT64_C(4294967296)
 
 /* The refusals of a table that is not sound. UNSOUND: no cell is empty, or some cell other than 0 has no key or a price outside the limits.
@@ -40,8 +40,16 @@ extern "C" {
 #define VULZEGAN_BAD_RECORD (VULZEGAN_REFUSED + 19)
 #define VULZEGAN_BAD_FIELD (VULZEGAN_REFUSED + 20)
 
-/* The refusal of an even a, in every function that takes a: at opening behind 1, 2 and 3 and before 16 and all others, elsewhere behind 1. */
+/* The refusal of an even a, in every function that takes a: at the opening of a phase behind 1, 2 and 3, where a round is opened or closed behind
+ * 1 and 2, in all of these before 16 and all others; elsewhere behind 1. */
 #define VULZEGAN_EVEN (VULZEGAN_REFUSED + 21)
+
+/* The answers to the single replies of a round, each of 32 bits: ACCEPTED, or the number of documents 01 and 02. BLANK: the key is 0. NO_WORKER:
+ * the worker is not below count. ABSENT: the table that was lent has no such key. The first to apply, in this sequence. */
+#define VULZEGAN_REPLY_ACCEPTED UINT32_C(0)
+#define VULZEGAN_REPLY_BLANK UINT32_C(7)
+#define VULZEGAN_REPLY_NO_WORKER UINT32_C(6)
+#define VULZEGAN_REPLY_ABSENT UINT32_C(22)
 
 /* Words: the answers of turns that are neither refused nor a price. */
 #define VULZEGAN_WORDS UINT64_C(8589934592)
@@ -114,6 +122,32 @@ uint64_t vulzegan_run_calls_singly(uint64_t kind, uint64_t count, uint32_t a, ui
 uint64_t vulzegan_read_till(const uint8_t *text, size_t text_len, uint64_t count, uint32_t *keys, size_t keys_len,
                             uint32_t *prices, size_t prices_len, uint32_t *workers, size_t workers_len);
 
+/* Opens a reply round with the list sent: VULZEGAN_ACCEPTED or a refusal. Line i is keys[i] at prices[i] for worker workers[i], and there are as many
+ * lines as the shortest of the three lists has. Cells are emptied, whatever they hold, and filled by one insert phase of count workers: the table
+ * is then sound by a and b, with the keys sent and no others, each at the least price sent for it.
+ *
+ * The refusals are those of an insert phase on a table of as many empty cells, first to apply: 1 for the number of cells, 2 if count is not
+ * 1 to 16, VULZEGAN_EVEN, 16 for more than 65,536 lines; then, of the earliest line that has one of them, 7 for key 0, 14 for a price outside
+ * the limits, 6 for a worker not below count; at last 9 if the keys sent, each counted once, are as many as the cells or more. This takes some
+ * 250 KB of stack. */
+uint64_t vulzegan_round_open(uint64_t count, uint32_t a, uint32_t b, uint64_t *cells, size_t cells_len, const uint32_t *keys, size_t keys_len,
+                             const uint32_t *prices, size_t prices_len, const uint32_t *workers, size_t workers_len);
+
+/* Closes a reply round: how many keys are left, or a refusal. Reply i is keys[i] for worker workers[i], and there are as many replies as the shorter
+ * of the two lists has, any number. Those neither blank nor without a worker are looked up in one find phase of count workers, those found are
+ * taken out in one delete phase, and what is left is listed as by vulzegan_list, at the front of out. answers[i] takes the answer to reply i;
+ * two replies for one key may both be accepted; the key then counts once. Places behind the replies in answers, and behind the listed cells in out, keep their contents.
+ * Cells then hold what is left, sound by a and b. count need not be the opening's. With the table, a and b as the opening left them, every key
+ * sent has an accepted reply or is listed, and none has both: the different keys sent are as many as the different keys with an accepted reply
+ * and those listed.
+ *
+ * The refusals, first to apply: 1 for the number of cells, 2 if count is not 1 to 16, VULZEGAN_EVEN, VULZEGAN_UNSOUND, VULZEGAN_GAP and
+ * VULZEGAN_DISORDER; at last 12 if out has fewer places than the lent table has keys, or answers fewer than there are replies. This takes some 185 KB of stack, as opening
+ * does. */
+uint64_t vulzegan_round_close(uint64_t count, uint32_t a, uint32_t b, uint64_t *cells, size_t cells_len, const uint32_t *keys, size_t keys_len,
+                              const uint32_t *workers, size_t workers_len, uint32_t *answers, size_t answers_len,
+                              uint64_t *out, size_t out_len);
+
 /* The functions of libkiosk.a, for a smaller model. There a table has 2 to 256 cells, and a phase 1 to 4 workers: each does as the function without
  * kiosk_ in its name, but answers 1 and 2 by these limits. What both models take gets the same answers and closes alike in both. */
 uint64_t vulzegan_kiosk_check(uint32_t a, uint32_t b, const uint64_t *cells, size_t cells_len);
@@ -136,6 +170,12 @@ uint64_t vulzegan_kiosk_run_calls_singly(uint64_t kind, uint64_t count, uint32_t
                                          uint64_t *answers, size_t answers_len);
 uint64_t vulzegan_kiosk_read_till(const uint8_t *text, size_t text_len, uint64_t count, uint32_t *keys, size_t keys_len,
                                   uint32_t *prices, size_t prices_len, uint32_t *workers, size_t workers_len);
+uint64_t vulzegan_kiosk_round_open(uint64_t count, uint32_t a, uint32_t b, uint64_t *cells, size_t cells_len,
+                                   const uint32_t *keys, size_t keys_len, const uint32_t *prices, size_t prices_len,
+                                   const uint32_t *workers, size_t workers_len);
+uint64_t vulzegan_kiosk_round_close(uint64_t count, uint32_t a, uint32_t b, uint64_t *cells, size_t cells_len,
+                                    const uint32_t *keys, size_t keys_len, const uint32_t *workers, size_t workers_len,
+                                    uint32_t *answers, size_t answers_len, uint64_t *out, size_t out_len);
 
 #ifdef __cplusplus
 }

@@ -9,7 +9,9 @@ use std::process::{Command, Stdio};
 use std::time::Instant;
 
 use conformance::shifts::calls_of;
-use conformance::{close, order, order_line, read_till, reference_open, reference_run, turn, Call, Calls, Orders, REFUSED};
+use conformance::{
+    close, order, order_line, read_till, reference_open, reference_run, round_close, round_open, turn, Call, Calls, Orders, Replies, REFUSED,
+};
 use reference::generate::factory::{self, GOLDEN};
 use reference::generate::till::{written, Quotes, Record};
 use reference::generate::Rng;
@@ -17,6 +19,7 @@ use reference::layout::{content, label_of, layout, way_is_greater, Homes, Prices
 use reference::listing;
 use reference::model::{Model, GATEWAY, KIOSK};
 use reference::phase::{Activity, Order, Phase, LOOK_UP, PUT_IN, TAKE_OUT};
+use reference::round::{self, Reply};
 use reference::till;
 
 /// Seconds of the median round of each side.
@@ -483,12 +486,48 @@ fn tills() {
     }
 }
 
+/// A reply round of sixteen workers in 8,192 cells, opened and closed: 4,000 labels sent, and 3,700 of them replied for in an order of their own.
+fn rounds() {
+    const REPLIES: usize = 3700;
+    let mut known = labels("at random", 4000);
+    let sent: Vec<Order> = (0..).zip(&known).map(|(i, &label)| Order { worker: i % 16, label, price: price(label) }).collect();
+    Rng::new(19).shuffle(&mut known);
+    let replies: Vec<Reply> = (0..).zip(&known[..REPLIES]).map(|(i, &label)| Reply { worker: i % 16, label }).collect();
+    let (lent, replied) = (Orders::of(&sent), Replies::of(&replies));
+    let (mut ours, mut theirs) = (vec![0; CELLS], vec![0; CELLS]);
+    let times = alternate(
+        61,
+        || seconds(|| assert_eq!(round_open(GATEWAY, 16, HOMES, black_box(&mut ours), lent.lists()), Ok(()))),
+        || seconds(|| assert_eq!(round::open(GATEWAY, 16, HOMES, black_box(&mut theirs), &sent), Ok(()))),
+    );
+    assert_eq!(ours, theirs);
+    line(&format!("round opened, {} labels sent in {CELLS} cells", sent.len()), "µs", 1e6, times);
+    let opening = ours.clone();
+    let silent = sent.len() - REPLIES;
+    let (mut answers, mut expected) = (vec![0; REPLIES], vec![0; REPLIES]);
+    let (mut out, mut listed) = (vec![0; sent.len()], vec![0; sent.len()]);
+    let times = alternate(
+        61,
+        || {
+            ours.copy_from_slice(&opening);
+            seconds(|| assert_eq!(round_close(GATEWAY, 16, HOMES, black_box(&mut ours), replied.lists(), &mut answers, &mut out), Ok(silent)))
+        },
+        || {
+            theirs.copy_from_slice(&opening);
+            seconds(|| assert_eq!(round::close(GATEWAY, 16, HOMES, black_box(&mut theirs), &replies, &mut expected, &mut listed), Ok(silent)))
+        },
+    );
+    assert_eq!((ours, answers, out), (theirs, expected, listed));
+    line(&format!("round closed, {REPLIES} replies to {} labels in {CELLS} cells", sent.len()), "µs", 1e6, times);
+}
+
 fn main() {
     let target = std::env::var("VULZEGAN_TARGET").expect("VULZEGAN_TARGET names rt's target folder");
     println!("| job | proved | reference | ratio |\n|---|---|---|---|");
     replays(&target);
     turns(GATEWAY, 4096, "");
     tills();
+    rounds();
     openings();
     at_rest();
     factory();

@@ -3,6 +3,7 @@
 use reference::layout::Homes;
 use reference::model::{Model, GATEWAY, KIOSK};
 use reference::phase::{Answer, Order, Phase};
+use reference::round::{self, Reply};
 use reference::till;
 
 pub mod shifts;
@@ -81,6 +82,36 @@ mod raw {
         workers_length: usize,
     ): vulzegan_read_till vulzegan_kiosk_read_till);
 
+    functions!(RoundOpen(
+        count: u64,
+        a: u32,
+        b: u32,
+        cells: *mut u64,
+        length: usize,
+        keys: *const u32,
+        keys_length: usize,
+        prices: *const u32,
+        prices_length: usize,
+        workers: *const u32,
+        workers_length: usize,
+    ): vulzegan_round_open vulzegan_kiosk_round_open);
+
+    functions!(RoundClose(
+        count: u64,
+        a: u32,
+        b: u32,
+        cells: *mut u64,
+        length: usize,
+        keys: *const u32,
+        keys_length: usize,
+        workers: *const u32,
+        workers_length: usize,
+        answers: *mut u32,
+        answers_length: usize,
+        out: *mut u64,
+        room: usize,
+    ): vulzegan_round_close vulzegan_kiosk_round_close);
+
     /// The functions of a model.
     pub struct Functions {
         pub check: AtRest,
@@ -90,6 +121,8 @@ mod raw {
         pub run_calls: RunCalls,
         pub run_calls_singly: RunCalls,
         pub read_till: ReadTill,
+        pub round_open: RoundOpen,
+        pub round_close: RoundClose,
     }
 
     pub static GATEWAY: Functions = Functions {
@@ -100,6 +133,8 @@ mod raw {
         run_calls: vulzegan_run_calls,
         run_calls_singly: vulzegan_run_calls_singly,
         read_till: vulzegan_read_till,
+        round_open: vulzegan_round_open,
+        round_close: vulzegan_round_close,
     };
 
     pub static KIOSK: Functions = Functions {
@@ -110,6 +145,8 @@ mod raw {
         run_calls: vulzegan_kiosk_run_calls,
         run_calls_singly: vulzegan_kiosk_run_calls_singly,
         read_till: vulzegan_kiosk_read_till,
+        round_open: vulzegan_kiosk_round_open,
+        round_close: vulzegan_kiosk_round_close,
     };
 }
 
@@ -152,8 +189,13 @@ fn value(answer: u64) -> Result<usize, u8> {
     }
 }
 
+/// Nothing, or the number of the refusal.
+fn accepted(answer: u64) -> Result<(), u8> {
+    value(answer).map(|accepted| assert_eq!(accepted, 0))
+}
+
 pub fn check(model: Model, Homes { a, b }: Homes, cells: &[u64]) -> Result<(), u8> {
-    value(unsafe { (library(model).check)(a, b, cells.as_ptr(), cells.len()) }).map(|accepted| assert_eq!(accepted, 0))
+    accepted(unsafe { (library(model).check)(a, b, cells.as_ptr(), cells.len()) })
 }
 
 pub fn count(model: Model, Homes { a, b }: Homes, cells: &[u64]) -> Result<usize, u8> {
@@ -162,6 +204,12 @@ pub fn count(model: Model, Homes { a, b }: Homes, cells: &[u64]) -> Result<usize
 
 pub fn list(model: Model, Homes { a, b }: Homes, cells: &[u64], out: &mut [u64]) -> Result<usize, u8> {
     value(unsafe { (library(model).list)(a, b, cells.as_ptr(), cells.len(), out.as_mut_ptr(), out.len()) })
+}
+
+/// The lines of three lists of keys, prices and workers: as many as the shortest of them has.
+pub fn lines_of([keys, prices, workers]: [&[u32]; 3]) -> Vec<Order> {
+    let lines = keys.iter().zip(prices).zip(workers);
+    lines.map(|((&label, &price), &worker)| Order { worker, label, price }).collect()
 }
 
 /// Reads a till's list for so many workers into three lists, of keys, prices and workers; the number of records. Lists shorter than 2 to the power 32
@@ -184,13 +232,79 @@ pub fn read_till(model: Model, text: &[u8], count: u64, [keys, prices, workers]:
 
 /// The same by the reference: its list has as many places as the shortest of the three.
 pub fn reference_read_till(model: Model, text: &[u8], count: u64, [keys, prices, workers]: [&mut [u32]; 3]) -> Result<usize, u8> {
-    let lines = keys.iter().zip(prices.iter()).zip(workers.iter());
-    let mut orders: Vec<Order> = lines.map(|((&label, &price), &worker)| Order { worker, label, price }).collect();
+    let mut orders = lines_of([keys, prices, workers]);
     let answer = till::read(model, text, count, &mut orders);
     for (i, order) in orders.into_iter().enumerate() {
         (keys[i], prices[i], workers[i]) = (order.label, order.price, order.worker);
     }
     answer
+}
+
+/// Opens a round with the list sent, lent as three lists of keys, prices and workers.
+pub fn round_open(model: Model, count: u64, Homes { a, b }: Homes, cells: &mut [u64], [keys, prices, workers]: [&[u32]; 3]) -> Result<(), u8> {
+    accepted(unsafe {
+        (library(model).round_open)(
+            count,
+            a,
+            b,
+            cells.as_mut_ptr(),
+            cells.len(),
+            keys.as_ptr(),
+            keys.len(),
+            prices.as_ptr(),
+            prices.len(),
+            workers.as_ptr(),
+            workers.len(),
+        )
+    })
+}
+
+/// The same by the reference.
+pub fn reference_round_open(model: Model, count: u64, homes: Homes, cells: &mut [u64], sent: [&[u32]; 3]) -> Result<(), u8> {
+    round::open(model, count, homes, cells, &lines_of(sent))
+}
+
+/// Closes a round with the replies, lent as two lists of keys and workers: how many keys are left and listed.
+pub fn round_close(
+    model: Model,
+    count: u64,
+    Homes { a, b }: Homes,
+    cells: &mut [u64],
+    [keys, workers]: [&[u32]; 2],
+    answers: &mut [u32],
+    out: &mut [u64],
+) -> Result<usize, u8> {
+    value(unsafe {
+        (library(model).round_close)(
+            count,
+            a,
+            b,
+            cells.as_mut_ptr(),
+            cells.len(),
+            keys.as_ptr(),
+            keys.len(),
+            workers.as_ptr(),
+            workers.len(),
+            answers.as_mut_ptr(),
+            answers.len(),
+            out.as_mut_ptr(),
+            out.len(),
+        )
+    })
+}
+
+/// The same by the reference: as many replies as the shorter of the two lists has.
+pub fn reference_round_close(
+    model: Model,
+    count: u64,
+    homes: Homes,
+    cells: &mut [u64],
+    [keys, workers]: [&[u32]; 2],
+    answers: &mut [u32],
+    out: &mut [u64],
+) -> Result<usize, u8> {
+    let replies: Vec<Reply> = keys.iter().zip(workers).map(|(&label, &worker)| Reply { worker, label }).collect();
+    round::close(model, count, homes, cells, &replies, answers, out)
 }
 
 /// A list of orders in the two forms that the library takes: three lists, as many lines as the shortest of them has, and one of structs.
@@ -211,9 +325,31 @@ impl Orders {
         }
     }
 
+    /// The three lists.
+    pub fn lists(&self) -> [&[u32]; 3] {
+        [&self.keys, &self.prices, &self.workers]
+    }
+
     /// The answer of the opening with the list of structs.
     pub fn open(&self, model: Model, kind: u64, count: u64, Homes { a, b }: Homes, cells: &[u64]) -> u64 {
         unsafe { (library(model).open)(kind, count, a, b, cells.as_ptr(), cells.len(), self.structs.as_ptr(), self.structs.len()) }
+    }
+}
+
+/// The replies of a round as the library takes them: as many as the shorter of these has.
+pub struct Replies {
+    pub keys: Vec<u32>,
+    pub workers: Vec<u32>,
+}
+
+impl Replies {
+    pub fn of(replies: &[Reply]) -> Replies {
+        Replies { keys: replies.iter().map(|r| r.label).collect(), workers: replies.iter().map(|r| r.worker).collect() }
+    }
+
+    /// The two lists.
+    pub fn lists(&self) -> [&[u32]; 2] {
+        [&self.keys, &self.workers]
     }
 }
 

@@ -276,9 +276,12 @@ fn numbers_of_the_header() {
     for (n, name) in [(4, "UNSOUND"), (17, "GAP"), (18, "DISORDER"), (19, "BAD_RECORD"), (20, "BAD_FIELD"), (21, "EVEN")] {
         assert_eq!(meaning(&format!("VULZEGAN_{name}")), format!("(VULZEGAN_REFUSED + {n})"));
     }
-    assert!(header.contains("VULZEGAN_REFUSED + the number of documents 01 and 02, 1 to 21."));
+    for (n, name) in [(0, "ACCEPTED"), (6, "NO_WORKER"), (7, "BLANK"), (22, "ABSENT")] {
+        assert_eq!(meaning(&format!("VULZEGAN_REPLY_{name}")), format!("UINT32_C({n})"));
+    }
+    assert!(header.contains("VULZEGAN_REFUSED + the number of documents 01 and 02, 1 to 21;"));
     let functions: Vec<&str> = header.lines().filter(|l| l.contains(" vulzegan_") && l.contains('(')).collect();
-    assert!(functions.len() == 14 && functions.iter().all(|l| l.starts_with("uint64_t vulzegan_")), "{functions:?}");
+    assert!(functions.len() == 18 && functions.iter().all(|l| l.starts_with("uint64_t vulzegan_")), "{functions:?}");
     let text = header.split_whitespace().collect::<Vec<_>>().join(" ");
     // the parameters of each function; those for kiosks have the same
     let declared = |text: &str| -> BTreeMap<String, String> {
@@ -286,11 +289,14 @@ fn numbers_of_the_header() {
         parts.map(|part| part.split_once('(').expect("parameters")).map(|(name, of)| (name.into(), of.into())).collect()
     };
     let (kiosk, gateway): (BTreeMap<_, _>, BTreeMap<_, _>) = declared(&text).into_iter().partition(|(name, _)| name.starts_with("kiosk_"));
-    assert_eq!(Vec::from_iter(gateway.keys()), ["check", "count", "list", "open", "read_till", "run_calls", "run_calls_singly"]);
+    assert_eq!(
+        Vec::from_iter(gateway.keys()),
+        ["check", "count", "list", "open", "read_till", "round_close", "round_open", "run_calls", "run_calls_singly"]
+    );
     assert_eq!(kiosk, gateway.into_iter().map(|(name, of)| (format!("kiosk_{name}"), of)).collect());
     for (list, times) in [
         ("(uint32_t a, uint32_t b, const uint64_t *cells, size_t cells_len", 6),
-        ("uint64_t *out, size_t out_len);", 2),
+        ("uint64_t *out, size_t out_len);", 4),
         ("struct vulzegan_order { uint32_t key; uint32_t price; uint32_t worker; };", 1),
         ("(uint64_t kind, uint64_t count, uint32_t a, uint32_t b, const uint64_t *cells, size_t cells_len, const struct vulzegan_order *orders, size_t orders_len);", 2),
         ("(uint64_t kind, uint64_t count, uint32_t a, uint32_t b, uint64_t *cells, size_t cells_len, const uint32_t *order_keys, size_t order_keys_len,", 4),
@@ -299,6 +305,9 @@ fn numbers_of_the_header() {
         ("const uint32_t *workers, size_t workers_len, const uint32_t *keys, size_t keys_len, uint64_t *answers, size_t answers_len);", 4),
         ("(const uint8_t *text, size_t text_len, uint64_t count, uint32_t *keys, size_t keys_len,", 2),
         ("uint32_t *prices, size_t prices_len, uint32_t *workers, size_t workers_len);", 2),
+        ("(uint64_t count, uint32_t a, uint32_t b, uint64_t *cells, size_t cells_len, const uint32_t *keys, size_t keys_len,", 4),
+        ("const uint32_t *prices, size_t prices_len, const uint32_t *workers, size_t workers_len);", 2),
+        ("const uint32_t *workers, size_t workers_len, uint32_t *answers, size_t answers_len,", 2),
     ] {
         assert_eq!(text.matches(list).count(), times, "{list}");
     }

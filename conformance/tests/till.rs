@@ -5,7 +5,7 @@ use std::collections::BTreeMap;
 use std::time::{Duration, Instant};
 
 use conformance::shifts::{closed, dealt, Entry};
-use conformance::{close, for_both_models, read_till, reference_read_till, reference_run, Calls, Orders, MODELS, REFUSED};
+use conformance::{close, for_both_models, lines_of, read_till, reference_read_till, reference_run, Calls, Orders, MODELS, REFUSED};
 use reference::generate::till::{all_texts, damaged, good, nick, number, written, Quotes, BYTES, PIECES};
 use reference::generate::{homes, price, table, Rng};
 use reference::layout::{content, label_of, layout, Homes, Prices, MAX_PRICE};
@@ -442,8 +442,7 @@ fn long_texts_are_read_in_linear_time(model: Model) {
 fn orders_of(model: Model, text: &[u8], crew: u32, records: usize) -> Vec<Order> {
     let [mut keys, mut prices, mut workers] = [(); 3].map(|()| vec![0; records]);
     assert_eq!(read_till(model, text, crew.into(), [&mut keys, &mut prices, &mut workers]), Ok(records));
-    let lines = keys.into_iter().zip(prices).zip(workers);
-    lines.map(|((label, price), worker)| Order { worker, label, price }).collect()
+    lines_of([&keys, &prices, &workers])
 }
 
 /// What a put-in opening answers with these orders, in both forms of the list.

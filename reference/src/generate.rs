@@ -11,6 +11,7 @@
 //! others, and goes on with them if they open it.
 
 pub mod factory;
+pub mod round;
 pub mod till;
 
 use std::collections::BTreeSet;
@@ -172,7 +173,7 @@ pub fn label_with(Homes { a, b }: Homes, value: u32) -> u32 {
 }
 
 /// The labels of a table.
-fn labels_of(table: &[u64]) -> Vec<u32> {
+pub fn labels_of(table: &[u64]) -> Vec<u32> {
     let labels = table.iter().map(|&cell| label_of(cell));
     labels.filter(|&label| label > 0).collect()
 }

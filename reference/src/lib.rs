@@ -7,6 +7,7 @@ pub mod layout;
 pub mod listing;
 pub mod model;
 pub mod phase;
+pub mod round;
 pub mod sheet;
 pub mod till;
 
@@ -39,4 +40,6 @@ pub mod refusal {
     pub const BAD_FIELD: u8 = 20;
     /// The a of the homes is even.
     pub const EVEN: u8 = 21;
+    /// A reply's label isn't in the table.
+    pub const ABSENT: u8 = 22;
 }

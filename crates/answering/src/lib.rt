@@ -15,7 +15,7 @@ use state::Reply;
 ghost use mathlib.Core.Path.{_≡_};
 ghost use mathlib.Core.Bool.{true, false};
 ghost use Prim.Native.Nat.{_+_, _≤_, _<_};
-ghost use lib.ListN.{length, take, replicate};
+ghost use lib.ListN.{length, take};
 ghost use Rattle.prices.specs.Contents.{label};
 ghost use Rattle.activities.specs.Activities.{activityOk};
 ghost use Rattle.state.specs.Model.{gateway};
@@ -111,16 +111,6 @@ fn tell(phase: Phase, length: usize, items: usize, told: Told) -> Done
     }
 }
 
-fn clear(cells: &mut [u64])
-    ensures { λ r. ⌜ now (cells .exit) ≡ replicate (length (now (cells .entry))) 0 ⌝ }
-{
-    let mut i: usize = 0;
-    while i < cells.len() {
-        cells[i] = 0;
-        i += 1;
-    }
-}
-
 fn set_cells(replay: Replay, length: u32, cells: &mut [u64]) -> Done
     requires { ⌜ Roomy replay (now cells) ⌝ }
     ensures { λ r. ⌜ Leaves replay (λ (s : State). cellsTask s length) (now (cells .entry)) (now (cells .exit)) r ⌝ }
@@ -142,7 +132,7 @@ fn set_cells(replay: Replay, length: u32, cells: &mut [u64]) -> Done
             Told::Replied(Reply::Refused(Refusal::Size)),
         );
     }
-    clear(&mut cells[..n]);
+    rest::clear(&mut cells[..n]);
     tell(
         replay.phase,
         n,

@@ -1,7 +1,7 @@
 -- A count is at most the table's length, and so a value.
 use mathlib.Core.Path.{_≡_, refl, ap, sym, _∙_}
 use mathlib.Core.List.{List}
-use Prim.Native.Nat.{ℕ, _≤_}
+use Prim.Native.Nat.{ℕ, _^_, _≤_, _<_}
 use native.Mathlib.Omega.{arith}
 use lib.ListN.{length, length-map}
 use Rattle.layout.specs.Layout.{size}
@@ -17,6 +17,8 @@ use Rattle.state.proofs.Model.{proper, most-cells}
 use Rattle.tables.specs.Calls.{countCall, listCall}
 use Rattle.tables.specs.Promise.{AtRest}
 use Rattle.tables.proofs.Theorem.{theorem}
+use Rattle.rounds.specs.Rounds.{tableAfter}
+use Rattle.rounds.proofs.Theorem.{closing}
 use Rattle.till.specs.Till.{tillCall}
 use Rattle.till.proofs.Theorem.{answers}
 use Rattle.answers.specs.Numbers.{CountsPromise}
@@ -43,11 +45,17 @@ is-read d text m places c e =
     let (_, (ls, holds, room)) = a .accepts .0 (ap countNumber e) in
     omega (arith, room, sym (ap countValue e) ∙ a .count ls holds (ap countNumber e))
 
+-- a listed table has no more keys than cells
+few-listed : (d : Device) (ab : Hash) (t out : List ℕ) (c : ℕ) → listCall (modelOf d) ab t out ≡ counted.Count c → c < 2 ^ 32
+few-listed d ab t out c e = omega (arith, size-le (labels label t), length-map t label, is-listed d ab t out c e)
+
 pub counts-promise : CountsPromise
 counts-promise = record {
   value = λ c. refl;
   refused = λ r. refl;
   count = λ d ab t c e. omega (arith, size-le (labels label t), length-map t label, is-count d ab t t c e);
-  list = λ d ab t out c e. omega (arith, size-le (labels label t), length-map t label, is-listed d ab t out c e);
+  list = few-listed;
+  round = λ d m ab t rs answers out c e.
+      few-listed d ab (tableAfter (modelOf d) m ab t rs answers out) out c (closing (modelOf d) (proper d) m ab t rs answers out .listed (ap countNumber e) .0 ∙ e);
   till = is-read;
 }

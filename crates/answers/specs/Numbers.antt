@@ -4,7 +4,9 @@ use mathlib.Core.List.{List, [], _∷_, _++_}
 use Prim.Native.Nat.{ℕ, _+_, _^_, _≤_, _<_}
 use lib.ListN.{length, drop}
 use Rattle.homes.specs.declared.Hash.{Hash}
-use Rattle.orders.specs.Orders.{ordersOf}
+use Rattle.homes.specs.Homes.{plain}
+use Rattle.prices.specs.Contents.{content}
+use Rattle.orders.specs.Orders.{orderWith, ordersOf}
 use Rattle.orders.specs.declared.Order.{Order}
 use Rattle.state.specs.Model.{Model, modelOf, gateway}
 use Rattle.state.specs.Open.{openReply}
@@ -14,6 +16,9 @@ use Rattle.state.specs.declared.Counted.{Counted}
 use Rattle.state.specs.declared.Device.{Device}
 use Rattle.state.specs.declared.Refusal.{Refusal}
 use Rattle.tables.specs.Calls.{countCall, listCall, listAfter}
+use Rattle.rounds.specs.Examples.{junk, sent, waiting, acks, seven, six}
+use Rattle.rounds.specs.Rounds as rounds
+use Rattle.rounds.specs.Rounds.{Ack, openRound, sentTable, closeRound, tableAfter, answersAfter}
 use Rattle.till.specs.Till.{tillCall, keysAfter, pricesAfter, workersAfter}
 use Rattle.history.specs.History.{Call, opening, after}
 use Rattle.numbered.specs.Numbers.{refusalAnswer, replyAnswer}
@@ -32,6 +37,8 @@ pub record CountsPromise : Type 0 where
   pub refused : (r : Refusal) → countedAnswer (counted.Refused r) ≡ 2 ^ 32 + numberOf r
   pub count : (d : Device) (ab : Hash) (t : List ℕ) (c : ℕ) → countCall (modelOf d) ab t ≡ counted.Count c → c < 2 ^ 32
   pub list : (d : Device) (ab : Hash) (t out : List ℕ) (c : ℕ) → listCall (modelOf d) ab t out ≡ counted.Count c → c < 2 ^ 32
+  pub round : (d : Device) (m : ℕ) (ab : Hash) (t : List ℕ) (rs : List Ack) (answers out : List ℕ) (c : ℕ)
+      → closeRound (modelOf d) m ab t rs answers out ≡ counted.Count c → c < 2 ^ 32
   -- a till list's count is at most the places lent, so it is below 2³² where these are
   pub till : (d : Device) (text : List ℕ) (m places c : ℕ) → tillCall (modelOf d) text m places ≡ counted.Count c → c ≤ places
 
@@ -46,6 +53,18 @@ pub record TillNumbers (M : Model) (text : List ℕ) (m : ℕ) (ks ps ws : List 
   pub keys : ks′ ≡ keysAfter M text m ks ps ws
   pub prices : ps′ ≡ pricesAfter M text m ks ps ws
   pub workers : ws′ ≡ workersAfter M text m ks ps ws
+
+-- a reply round opened for m workers with the list os: the number of the answer, and the table afterwards
+pub record OpenNumbers (M : Model) (m : ℕ) (ab : Hash) (t : List ℕ) (os : List Order) (r : ℕ) (t′ : List ℕ) : Type 0 where
+  pub reply : r ≡ replyAnswer (openRound M m ab t os)
+  pub table : t′ ≡ sentTable M m ab t os
+
+-- closed with the acknowledgements rs: the number of the answer, the table, the answers and the list afterwards
+pub record CloseNumbers (M : Model) (m : ℕ) (ab : Hash) (t : List ℕ) (rs : List Ack) (answers out : List ℕ) (r : ℕ) (t′ answers′ out′ : List ℕ) : Type 0 where
+  pub reply : r ≡ countedAnswer (closeRound M m ab t rs answers out)
+  pub table : t′ ≡ tableAfter M m ab t rs answers out
+  pub told : answers′ ≡ answersAfter M m ab t rs answers out
+  pub list : out′ ≡ rounds.listAfter M m ab t rs answers out
 
 -- an opening with the list of orders os, and the calls
 module _ (M : Model) (k m : ℕ) (ab : Hash) (t : List ℕ) (os : List Order) (ops lines workers keys out : List ℕ) where
@@ -70,3 +89,14 @@ AllGiven (b ∷ bs) = Given b × AllGiven bs
 
 abbrev pub GivenPromise : Type 0
 GivenPromise = AllGiven batches
+
+-- rounds of rounds/specs/Examples, with the numbers written out: opened, refused with 9; closed with three left, refused with 12. Proved in proofs/Rounds
+pub record RoundsGiven : Type 0 where
+  pub opened : OpenNumbers gateway 2 plain junk sent 0 waiting
+  pub full : OpenNumbers gateway 2 plain junk (orderWith 5 1 0 ∷ sent) (4294967296 + 9) junk
+  pub closed : CloseNumbers gateway 2 plain waiting acks seven six
+      3
+      (content 3 100 ∷ 0 ∷ 0 ∷ content 13 70 ∷ content 4 5 ∷ [])
+      (0 ∷ 0 ∷ 7 ∷ 6 ∷ 22 ∷ 65 ∷ 66 ∷ [])
+      (content 3 100 ∷ content 13 70 ∷ content 4 5 ∷ 73 ∷ 74 ∷ 75 ∷ [])
+  pub short : CloseNumbers gateway 2 plain waiting acks [] six (4294967296 + 12) waiting [] six

@@ -12,7 +12,8 @@ ghost use Rattle.state.specs.Model.{modelOf};
 ghost use Rattle.tables.specs.Calls.{checkCall, countCall};
 ghost use Rattle.numbered.specs.Numbers.{replyAnswer};
 ghost use Rattle.numbered.specs.Batch.{Promised};
-ghost use Rattle.answers.specs.Numbers.{countedAnswer, ListNumbers, TillNumbers, RunNumbers};
+ghost use Rattle.rounds.specs.Rounds.{acksOf};
+ghost use Rattle.answers.specs.Numbers.{countedAnswer, ListNumbers, TillNumbers, RunNumbers, OpenNumbers, CloseNumbers};
 
 // ---- answers
 // The count, or the number of the refusal.
@@ -161,4 +162,52 @@ pub fn run_calls_singly(
     );
     let reply = ran.reply;
     reply_answer(reply)
+}
+
+// ---- reply rounds
+// Opens a round with the list sent: 0, or the number of the refusal.
+pub fn open_round(
+    device: Device,
+    count: u64,
+    a: u32,
+    b: u32,
+    cells: &mut [u64],
+    keys: &[u32],
+    prices: &[u32],
+    workers: &[u32],
+) -> u64
+    ensures { λ r. ⌜ OpenNumbers (modelOf device) count (hashOf a b) (now (cells .entry)) (ordersOf (now (keys .entry)) (now (prices .entry)) (now (workers .entry)))
+        r (now (cells .exit)) ⌝ }
+{
+    let opened = polling::open_round(device, count, Hash { a, b }, cells, keys, prices, workers);
+    reply_answer(opened)
+}
+
+// Closes a round with the replies: how many labels are left, or the number of the refusal. `answers` takes the number of each reply's answer, 0 if it is
+// accepted, and `out` what is left.
+pub fn close_round(
+    device: Device,
+    count: u64,
+    a: u32,
+    b: u32,
+    cells: &mut [u64],
+    keys: &[u32],
+    workers: &[u32],
+    answers: &mut [u32],
+    out: &mut [u64],
+) -> u64
+    ensures { λ r. ⌜ CloseNumbers (modelOf device) count (hashOf a b) (now (cells .entry)) (acksOf (now (keys .entry)) (now (workers .entry)))
+        (now (answers .entry)) (now (out .entry)) r (now (cells .exit)) (now (answers .exit)) (now (out .exit)) ⌝ }
+{
+    let closed = polling::close_round(
+        device,
+        count,
+        Hash { a, b },
+        cells,
+        keys,
+        workers,
+        answers,
+        out,
+    );
+    counted_answer(closed)
 }

@@ -16,7 +16,8 @@ fn found_line(order: Order) -> Found
     }
 }
 
-fn no_line() -> Found
+// What stands where there is no line.
+pub fn no_line() -> Found
     ensures { λ r. ⌜ r ≡ record { there = false; order = blank } ⌝ }
 {
     Found {

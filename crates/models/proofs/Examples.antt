@@ -16,12 +16,15 @@ use Rattle.flaws.specs.Flaws.{meetsEmpty, meetsKey}
 use Rattle.orders.specs.Orders.{lineFault, linesFault}
 use Rattle.phases.specs.Promise.{SameOrders}
 use Rattle.rule.specs.Rule.{rule, insertStep, deleteStep, settled, absorbed, fits, narrow}
-use Rattle.words.specs.Words.{occupied, entriesOf, filled}
+use lib.Count as bits
+use Rattle.ring.specs.Counting.{tally}
+use Rattle.words.specs.Words.{occupied, entriesOf, filled, placeOf}
+use Rattle.rounds.specs.Rounds.{openRound, closeRound}
 use Rattle.words.proofs.Places.{count-occupied}
 use Rattle.state.specs.Counts.{countNumber, countedBy, ifCounted}
 use Rattle.state.specs.Model.{gateway, kiosk}
 use Rattle.state.specs.Open.{tableBars, openReply}
-use Rattle.state.specs.Refusals.{if, firstOf}
+use Rattle.state.specs.Refusals.{if, replyNumber, firstOf}
 use Rattle.state.specs.declared.Counted.{Counted}
 use Rattle.state.specs.declared.Device.the-variants.{Gateway, Kiosk}
 use Rattle.state.specs.declared.Refusal.the-variants.{ShortList}
@@ -81,6 +84,14 @@ four-listed =
       ap (λ (c : Counted). ifCounted c (entriesOf four) []) (list-answers four out),
     )
 
+-- ---- reply rounds
+rounds-answer : (map (λ n. replyNumber (openRound kiosk 1 plain (emptyCells n) [])) lengths ≡ 1 ∷ 1 ∷ 0 ∷ 0 ∷ 1 ∷ 1 ∷ [])
+    × (map (λ n. countNumber (closeRound kiosk 1 plain (emptyCells n) [] [] [])) lengths ≡ 1 ∷ 1 ∷ 0 ∷ 0 ∷ 1 ∷ 1 ∷ [])
+    × (map (λ m. replyNumber (openRound kiosk m plain (emptyCells 2) [])) crews ≡ 2 ∷ 0 ∷ 0 ∷ 2 ∷ 2 ∷ 2 ∷ [])
+    × (map (λ m. countNumber (closeRound kiosk m plain (emptyCells 2) [] [] [])) crews ≡ 2 ∷ 0 ∷ 0 ∷ 2 ∷ 2 ∷ 2 ∷ [])
+unfolding lineFault linesFault descending into meetsEmpty meetsKey first all some dist probe wrap placeOf tally bits.ones
+rounds-answer = (refl, refl, refl, refl)
+
 pub kiosk-examples : KioskExamples
 unfolding isWellFormed lineFault linesFault descending into meetsEmpty meetsKey first all some dist probe wrap
 kiosk-examples = record {
@@ -90,9 +101,13 @@ kiosk-examples = record {
   checks = refl;
   counts = refl;
   lists = cells-listed;
+  sends = rounds-answer .0;
+  settles = rounds-answer .1;
   gateway-cells = refl;
   workers = refl;
   tills = tills-read .0;
+  send-workers = rounds-answer .2;
+  settle-workers = rounds-answer .3;
   gateway-workers = refl;
   gateway-tills = tills-read .1;
   opened = refl;

@@ -9,6 +9,7 @@ use Rattle.protocol.proofs.Keeping.{keeps, each-never-spoilt, places}
 use Rattle.protocol.proofs.Soundness.{sounds}
 use Rattle.protocol.proofs.Theorem.{opens, orders, turns, closes, well-formed, hash-untested}
 use Rattle.tables.proofs.Theorem.{theorem}
+use Rattle.rounds.proofs.Theorem.{sending, closing, round}
 use Rattle.till.proofs.Theorem.{till-promise}
 use Rattle.history.proofs.Theorem.{history, any-lists, keeps-table, refused, fixed, one-table, two-turns}
 use Rattle.models.specs.Promises.{EachPromise}
@@ -35,6 +36,9 @@ each-promise d = record {
   rests = theorem (modelOf d) (proper d);
   fills = till-promise .fills (modelOf d);
   fills-three = till-promise .three (modelOf d);
+  sends = sending (modelOf d) (proper d);
+  settles = closing (modelOf d) (proper d);
+  rounds = round (modelOf d) (proper d);
   calls = history (modelOf d) (proper d);
   any-lists = any-lists (modelOf d) (proper d);
   keeps-table = keeps-table (modelOf d) (proper d);

@@ -1,13 +1,10 @@
 -- The kiosk's calls beside the gateway's: outside its limits by the promises, inside them by the tests, which are all that is different.
 use mathlib.Core.Path.{_≡_, refl, sym, ap, ap₂, _∙_}
 use mathlib.Core.Logic.{_↔_, _≢_}
-use mathlib.Core.Bool.{true}
 use mathlib.Core.List.{List, [], _∷_}
 use Prim.Native.Nat.{ℕ, _≤_, _<_}
 use native.Mathlib.Omega.{arith}
-use borrow.Author.Tests.{le-leb}
-use lib.Dec.{leb}
-use lib.ListN.{length}
+use lib.ListN.{length, length-replicate}
 use Rattle.ring.proofs.Split.{by-eq}
 use Rattle.homes.specs.declared.Hash.{Hash}
 use Rattle.orders.specs.Orders.{lineAt}
@@ -22,33 +19,30 @@ use Rattle.state.specs.declared.Replied.{Replied}
 use Rattle.state.specs.declared.Reply.the-variants.{Accepted}
 use Rattle.state.proofs.Model.{proper}
 use Rattle.protocol.specs.Calls.{asked, entryFor, closeCall, orderCall, turnNumber, turnCall, turnTable}
-use Rattle.protocol.specs.IsWellFormed.{isWellFormed}
 use Rattle.protocol.specs.Promise.{opened as made-opened}
 use Rattle.protocol.specs.WellFormed.{Size, Crew, WellFormed}
 use Rattle.protocol.specs.declared.Turned.{Turned}
 use Rattle.protocol.proofs.Keeping.{each-never-spoilt}
-use Rattle.protocol.proofs.Theorem.{opens, orders, turns, closes, well-formed}
+use Rattle.protocol.proofs.Limits.{cells-in-both, crew-in-both, open-alike, formed-within, order-alike, turn-alike, table-alike, close-alike}
+use Rattle.protocol.proofs.Theorem.{opens, orders, turns, closes}
 use Rattle.tables.specs.Calls.{checkCall, listCall}
 use Rattle.tables.proofs.Theorem.{theorem}
 use Rattle.orders.specs.Orders.{ordersOf}
 use Rattle.till.specs.Till.{tillCall}
 use Rattle.till.proofs.Theorem.{answers, till-promise}
+use Rattle.rounds.proofs.Theorem.{sending, closing}
 use Rattle.history.specs.History.{Call, order, turn, close, History, Lent, afterOrder, afterTurn, afterClose, call, run, runLent, opening, after, afterLent}
 use Rattle.history.proofs.Keeping.{call-keeps}
 use Rattle.history.proofs.Theorem.{fixed, one-table}
 use Rattle.numbered.specs.Numbers.{turnAnswer, replyAnswer}
 use Rattle.numbered.specs.Lists.{answerOf, answersOf}
-use Rattle.models.specs.Within.{Few, Crews, Outside, SameTables, SameCalls, SameTills, Inside}
+use Rattle.models.specs.Within.{Few, Crews, Outside, SameTables, SameCalls, SameTills, SameRounds, Inside}
 
 -- ---- records
 formed : (p : Phase) → WellFormed kiosk p ↔ (WellFormed gateway p × (p .length ≤ 256) × (p .crew ≤ 4))
 formed p = (
-  λ h. (
-    record { kind = h .kind; size = (h .size .0, omega (arith, h .size)); crew = (h .crew .0, omega (arith, h .crew)); past = h .past; workers = h .workers },
-    h .size .1,
-    h .crew .1,
-  ),
-  λ (h, cells, crew). record { kind = h .kind; size = (h .size .0, cells); crew = (h .crew .0, crew); past = h .past; workers = h .workers },
+  λ h. (formed-within Kiosk p .0 h .0, h .size .1, h .crew .1),
+  λ (h, cells, crew). formed-within Kiosk p .1 (h, (h .size .0, cells), (h .crew .0, crew)),
 )
 
 -- ---- the limits in words, and the model's
@@ -113,6 +107,11 @@ outside = record {
   till-kept = λ text m old many. till-promise .fills kiosk text m old .refused (nonzero (till-crew text m (length old) many) (omega arith));
   till-three = λ text m ks ps ws many.
       till-promise .three kiosk text m ks ps ws .refused (nonzero (till-crew text m (length (ordersOf ks ps ws)) many) (omega arith));
+  send-size = λ m ab t os many. sending kiosk (proper Kiosk) m ab t os .decides .0 .1 (tt, λ h. many (few-says (length t) h));
+  send-crew = λ m ab t os few many. sending kiosk (proper Kiosk) m ab t os .decides .1 .0 .1 ((tt, says-few (length t) few), λ h. many (crews-says m h));
+  settle-size = λ m ab t rs answers out many. closing kiosk (proper Kiosk) m ab t rs answers out .decides .0 .1 (tt, λ h. many (few-says (length t) h));
+  settle-crew = λ m ab t rs answers out few many.
+      closing kiosk (proper Kiosk) m ab t rs answers out .decides .1 .0 .1 ((tt, says-few (length t) few), λ h. many (crews-says m h));
   formed = formed;
   order = order-spoilt;
   turn = λ p t w bad.
@@ -127,26 +126,17 @@ outside = record {
 }
 
 -- ---- inside: both pass the tests of their limits
-cells-in-both : (n : ℕ) → Few n → (leb n 256 ≡ true) × (leb n 8192 ≡ true)
-cells-in-both n h = let k = says-few n h in (le-leb n 256 (k .1), le-leb n 8192 (omega (arith, k .1)))
-
-crew-in-both : (m : ℕ) → Crews m → (leb m 4 ≡ true) × (leb m 16 ≡ true)
-crew-in-both m h = let k = says-crews m h in (le-leb m 4 (k .1), le-leb m 16 (omega (arith, k .1)))
-
-open-alike : (k m : ℕ) (ab : Hash) (t : List ℕ) (os : List Order) → Few (length t) → Crews m → openCall kiosk k m ab t os ≡ openCall gateway k m ab t os
-open-alike k m ab t os few crew =
-    let (a, b) = cells-in-both (length t) few in
-    let (c, d) = crew-in-both m crew in
-    rw (a, b, c, d)
+alike-inside : (k m : ℕ) (ab : Hash) (t : List ℕ) (os : List Order) → Few (length t) → Crews m → openCall kiosk k m ab t os ≡ openCall gateway k m ab t os
+alike-inside k m ab t os few crew = open-alike Kiosk k m ab t os (says-few (length t) few) (says-crews m crew)
 
 tables-alike : (ab : Hash) (t : List ℕ) → Few (length t) → SameTables ab t
 tables-alike ab t few =
-    let (a, b) = cells-in-both (length t) few in
+    let (a, b) = cells-in-both Kiosk (length t) (says-few (length t) few) in
     record { check = rw (a, b); count = rw (a, b); list = λ out. rw (a, b); after = λ out. rw (a, b); front = λ out. rw (a, b) }
 
 tills-alike : (text : List ℕ) (m : ℕ) → Crews m → SameTills text m
 tills-alike text m crew =
-    let (a, b) = crew-in-both m crew in
+    let (a, b) = crew-in-both Kiosk m (says-crews m crew) in
     record {
       answer = λ places. rw (a, b);
       orders = λ old. rw (a, b);
@@ -155,11 +145,27 @@ tills-alike text m crew =
       workers = λ ks ps ws. rw (a, b);
     }
 
+rounds-alike : (m : ℕ) (ab : Hash) (t : List ℕ) → Few (length t) → Crews m → SameRounds m ab t
+rounds-alike m ab t few crew =
+    let (a, b) = cells-in-both Kiosk (length t) (says-few (length t) few) in
+    let (x, y) = crew-in-both Kiosk m (says-crews m crew) in
+    let bare = length-replicate {A = ℕ} (length t) 0 in
+    record {
+      opens = λ os. rw (bare, a, b, x, y);
+      sent = λ os. rw (bare, a, b, x, y);
+      closes = λ rs answers out. rw (a, b, x, y);
+      table = λ rs answers out. rw (a, b, x, y);
+      answers = λ rs answers out. rw (a, b, x, y);
+      list = λ rs answers out. rw (a, b, x, y);
+    }
+
 calls-alike : (p : Phase) → WellFormed kiosk p → SameCalls p
-calls-alike p h =
-    let a : isWellFormed kiosk p ≡ true = well-formed kiosk p .1 h in
-    let b : isWellFormed gateway p ≡ true = well-formed gateway p .1 (formed p .0 h .0) in
-    record { order = λ os i w v. rw (a, b); turn = λ t w. rw (a, b); table = λ t w. rw (a, b); close = rw (a, b) }
+calls-alike p h = record {
+  order = λ os i w v. order-alike Kiosk p h (lineAt os i) w v;
+  turn = turn-alike Kiosk p h;
+  table = table-alike Kiosk p h;
+  close = close-alike Kiosk p h;
+}
 
 -- ---- lists of calls
 call-alike : (os : List Order) (c : Call) (s : History) → SameCalls (s .phase) → call kiosk os c s ≡ call gateway os c s
@@ -223,7 +229,7 @@ module _ (k m : ℕ) (ab : Hash) (t : List ℕ) (os : List Order) (is : openRepl
       ((omega (arith, within .size), omega (arith, within .size)), (omega (arith, within .crew), omega (arith, within .crew)))
 
   alike : openCall kiosk k m ab t os ≡ openCall gateway k m ab t os
-  alike = open-alike k m ab t os (numbers .0) (numbers .1)
+  alike = alike-inside k m ab t os (numbers .0) (numbers .1)
 
   accepted : openReply gateway k m ab t os ≡ Accepted
   accepted =
@@ -252,9 +258,10 @@ module _ (k m : ℕ) (ab : Hash) (t : List ℕ) (os : List Order) (is : openRepl
 
 pub inside : Inside
 inside = record {
-  openings = open-alike;
+  openings = alike-inside;
   tables = tables-alike;
   tills = tills-alike;
+  rounds = rounds-alike;
   calls = calls-alike;
   refused = refl;
   accepted = accepted;

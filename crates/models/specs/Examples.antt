@@ -15,6 +15,7 @@ use Rattle.state.specs.declared.Phase.{Phase}
 use Rattle.protocol.specs.Calls.{turnNumber, closeCall, orderCall, turnCall, turnTable}
 use Rattle.tables.specs.Calls.{checkCall, countCall, listCall, listAfter, listFront}
 use Rattle.history.specs.History.{after}
+use Rattle.rounds.specs.Rounds.{openRound, closeRound}
 use Rattle.till.specs.Till.{tillCall, tillAfter}
 use Rattle.examples.specs.Forms.{emptyCells, phase, allIdle, busyOne, handedBack, callsOf}
 use Rattle.examples.specs.Examples.{four, sheetItems, sheetPutsIn}
@@ -74,17 +75,21 @@ module _ (M : Model) where
   read m = countNumber (tillCall M (bytesOf "7,1") m 1)
 
 pub record KioskExamples : Type 0 where
-  -- 1 and 257 cells get 1; 2 and 256 open, in every kind; so do check, count and list
+  -- 1 and 257 cells get 1; 2 and 256 open, in every kind; so do check, count, list and reply rounds
   pub inserts : map (onCells kiosk 1) lengths ≡ 1 ∷ 1 ∷ 0 ∷ 0 ∷ 1 ∷ 1 ∷ []
   pub deletes : map (onCells kiosk 2) lengths ≡ 1 ∷ 1 ∷ 0 ∷ 0 ∷ 1 ∷ 1 ∷ []
   pub finds : map (onCells kiosk 3) lengths ≡ 1 ∷ 1 ∷ 0 ∷ 0 ∷ 1 ∷ 1 ∷ []
   pub checks : map (λ n. replyNumber (checkCall kiosk plain (emptyCells n))) lengths ≡ 1 ∷ 1 ∷ 0 ∷ 0 ∷ 1 ∷ 1 ∷ []
   pub counts : map (λ n. countNumber (countCall kiosk plain (emptyCells n))) lengths ≡ 1 ∷ 1 ∷ 0 ∷ 0 ∷ 1 ∷ 1 ∷ []
   pub lists : map (λ n. countNumber (listCall kiosk plain (emptyCells n) [])) lengths ≡ 1 ∷ 1 ∷ 0 ∷ 0 ∷ 1 ∷ 1 ∷ []
+  pub sends : map (λ n. replyNumber (openRound kiosk 1 plain (emptyCells n) [])) lengths ≡ 1 ∷ 1 ∷ 0 ∷ 0 ∷ 1 ∷ 1 ∷ []
+  pub settles : map (λ n. countNumber (closeRound kiosk 1 plain (emptyCells n) [] [] [])) lengths ≡ 1 ∷ 1 ∷ 0 ∷ 0 ∷ 1 ∷ 1 ∷ []
   pub gateway-cells : map (onCells gateway 2) lengths ≡ 1 ∷ 1 ∷ 0 ∷ 0 ∷ 0 ∷ 0 ∷ []
-  -- 0 and 5 workers get 2; 1 and 4 open, and have a till list read
+  -- 0 and 5 workers get 2; 1 and 4 open, and have a till list read and rounds opened and closed
   pub workers : map (withCrew kiosk) crews ≡ 2 ∷ 0 ∷ 0 ∷ 2 ∷ 2 ∷ 2 ∷ []
   pub tills : map (read kiosk) crews ≡ 2 ∷ 0 ∷ 0 ∷ 2 ∷ 2 ∷ 2 ∷ []
+  pub send-workers : map (λ m. replyNumber (openRound kiosk m plain (emptyCells 2) [])) crews ≡ 2 ∷ 0 ∷ 0 ∷ 2 ∷ 2 ∷ 2 ∷ []
+  pub settle-workers : map (λ m. countNumber (closeRound kiosk m plain (emptyCells 2) [] [] [])) crews ≡ 2 ∷ 0 ∷ 0 ∷ 2 ∷ 2 ∷ 2 ∷ []
   pub gateway-workers : map (withCrew gateway) crews ≡ 2 ∷ 0 ∷ 0 ∷ 0 ∷ 0 ∷ 2 ∷ []
   pub gateway-tills : map (read gateway) crews ≡ 2 ∷ 0 ∷ 0 ∷ 0 ∷ 0 ∷ 2 ∷ []
   -- what an opening hands back, accepted and refused: the same record in both models

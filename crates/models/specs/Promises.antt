@@ -11,6 +11,7 @@ use Rattle.homes.specs.declared.Hash.{Hash}
 use Rattle.orders.specs.declared.Order.{Order}
 use Rattle.state.specs.Model.{Model, modelOf, Limited, mostCellsOf, mostWorkersOf}
 use Rattle.state.specs.Open.{openReply, refusedPhase}
+use Rattle.state.specs.declared.Counted.the-variants.{Count}
 use Rattle.state.specs.declared.Device.{Device}
 use Rattle.state.specs.declared.Phase.{Phase}
 use Rattle.state.specs.declared.Reply.the-variants.{Accepted}
@@ -22,6 +23,8 @@ use Rattle.protocol.specs.WellFormed.{WellFormed}
 use Rattle.tables.specs.Promise.{AtRest}
 use Rattle.history.specs.History.{Call, Lent, after}
 use Rattle.history.specs.Promise.{Claim, AnyLists, KeepsTable, TwoTurns, OneTable, Fixed}
+use Rattle.rounds.specs.Promise.{Sending, Closing, Round}
+use Rattle.rounds.specs.Rounds.{Ack, openRound, sentTable, closeRound, answersAfter, listAfter}
 use Rattle.till.specs.Promise.{Fills, FillsThree}
 
 pub record Promises (M : Model) (most crews : ℕ) : Type 0 where
@@ -46,6 +49,12 @@ pub record Promises (M : Model) (most crews : ℕ) : Type 0 where
   -- till lists, lent as one list or as three
   pub fills : (text : List ℕ) (m : ℕ) (old : List Order) → Fills M text m old
   pub fills-three : (text : List ℕ) (m : ℕ) (keys prices workers : List ℕ) → FillsThree M text m keys prices workers
+  -- reply rounds: opening, closing, and the whole round
+  pub sends : (m : ℕ) (ab : Hash) (t : List ℕ) (os : List Order) → Sending M m ab t os
+  pub settles : (m : ℕ) (ab : Hash) (t : List ℕ) (rs : List Ack) (answers out : List ℕ) → Closing M m ab t rs answers out
+  pub rounds : (m m′ : ℕ) (ab : Hash) (t : List ℕ) (os : List Order) → openRound M m ab t os ≡ Accepted
+      → (rs : List Ack) (answers out : List ℕ) (c : ℕ) → closeRound M m′ ab (sentTable M m ab t os) rs answers out ≡ Count c
+      → Round os rs (answersAfter M m′ ab (sentTable M m ab t os) rs answers out) (listAfter M m′ ab (sentTable M m ab t os) rs answers out) c
   -- demand 3: every list of calls; two lists closed alike; two turns
   pub calls : (k m : ℕ) (ab : Hash) (t : List ℕ) (os : List Order) → openReply M k m ab t os ≡ Accepted → (cs : List Call) → Claim M k m ab t os cs
   pub any-lists : (k m : ℕ) (ab : Hash) (t : List ℕ) (os : List Order) → openReply M k m ab t os ≡ Accepted → (cs : List Lent)

@@ -18,6 +18,8 @@ use Rattle.tables.specs.Calls.{checkCall, countCall, listCall, listAfter, listF
 use Rattle.history.specs.History.{Call, Lent, opening, after, afterLent}
 use Rattle.history.specs.Promise.{OneTable, Fixed}
 use Rattle.numbered.specs.Lists.{answersOf}
+use Rattle.rounds.specs.Rounds as rounds
+use Rattle.rounds.specs.Rounds.{Ack, openRound, sentTable, closeRound, tableAfter, answersAfter}
 use Rattle.till.specs.Till.{tillCall, tillAfter, keysAfter, pricesAfter, workersAfter}
 
 -- ---- the kiosk's limits: n cells, m workers
@@ -39,6 +41,12 @@ pub record Outside : Type 0 where
   pub till-kept : (text : List ℕ) (m : ℕ) (old : List Order) → (Crews m → ⊥) → tillAfter kiosk text m old ≡ old
   pub till-three : (text : List ℕ) (m : ℕ) (ks ps ws : List ℕ) → (Crews m → ⊥)
       → (keysAfter kiosk text m ks ps ws ≡ ks) × (pricesAfter kiosk text m ks ps ws ≡ ps) × (workersAfter kiosk text m ks ps ws ≡ ws)
+  pub send-size : (m : ℕ) (ab : Hash) (t : List ℕ) (os : List Order) → (Few (length t) → ⊥) → replyNumber (openRound kiosk m ab t os) ≡ 1
+  pub send-crew : (m : ℕ) (ab : Hash) (t : List ℕ) (os : List Order) → Few (length t) → (Crews m → ⊥) → replyNumber (openRound kiosk m ab t os) ≡ 2
+  pub settle-size : (m : ℕ) (ab : Hash) (t : List ℕ) (rs : List Ack) (answers out : List ℕ) → (Few (length t) → ⊥)
+      → countNumber (closeRound kiosk m ab t rs answers out) ≡ 1
+  pub settle-crew : (m : ℕ) (ab : Hash) (t : List ℕ) (rs : List Ack) (answers out : List ℕ) → Few (length t) → (Crews m → ⊥)
+      → countNumber (closeRound kiosk m ab t rs answers out) ≡ 2
   -- a record is spoilt to the kiosk exactly if it is spoilt to the gateway, or is of more than 256 cells or 4 workers
   pub formed : (p : Phase) → WellFormed kiosk p ↔ (WellFormed gateway p × (p .length ≤ 256) × (p .crew ≤ 4))
   pub order : (p : Phase) (os : List Order) (i w v : ℕ) → (WellFormed kiosk p → ⊥)
@@ -71,10 +79,20 @@ pub record SameTills (text : List ℕ) (m : ℕ) : Type 0 where
   pub prices : (ks ps ws : List ℕ) → pricesAfter kiosk text m ks ps ws ≡ pricesAfter gateway text m ks ps ws
   pub workers : (ks ps ws : List ℕ) → workersAfter kiosk text m ks ps ws ≡ workersAfter gateway text m ks ps ws
 
+-- of a reply round with m workers on a table
+pub record SameRounds (m : ℕ) (ab : Hash) (t : List ℕ) : Type 0 where
+  pub opens : (os : List Order) → openRound kiosk m ab t os ≡ openRound gateway m ab t os
+  pub sent : (os : List Order) → sentTable kiosk m ab t os ≡ sentTable gateway m ab t os
+  pub closes : (rs : List Ack) (answers out : List ℕ) → closeRound kiosk m ab t rs answers out ≡ closeRound gateway m ab t rs answers out
+  pub table : (rs : List Ack) (answers out : List ℕ) → tableAfter kiosk m ab t rs answers out ≡ tableAfter gateway m ab t rs answers out
+  pub answers : (rs : List Ack) (answers out : List ℕ) → answersAfter kiosk m ab t rs answers out ≡ answersAfter gateway m ab t rs answers out
+  pub list : (rs : List Ack) (answers out : List ℕ) → rounds.listAfter kiosk m ab t rs answers out ≡ rounds.listAfter gateway m ab t rs answers out
+
 pub record Inside : Type 0 where
   pub openings : (k m : ℕ) (ab : Hash) (t : List ℕ) (os : List Order) → Few (length t) → Crews m → openCall kiosk k m ab t os ≡ openCall gateway k m ab t os
   pub tables : (ab : Hash) (t : List ℕ) → Few (length t) → SameTables ab t
   pub tills : (text : List ℕ) (m : ℕ) → Crews m → SameTills text m
+  pub rounds : (m : ℕ) (ab : Hash) (t : List ℕ) → Few (length t) → Crews m → SameRounds m ab t
   pub calls : (p : Phase) → WellFormed kiosk p → SameCalls p
   -- a refused opening hands back the same record
   pub refused : refusedPhase kiosk ≡ refusedPhase gateway

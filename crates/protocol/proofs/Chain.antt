@@ -10,7 +10,7 @@ use borrow.Author.Tests.{not-true, not-false, eq-eqb}
 use Rattle.ring.proofs.Tests.{tested, by-test, not-both}
 use Rattle.state.specs.Refusals.{numberOf, replyNumber, Bar, firstOf}
 use Rattle.state.specs.declared.Refusal.{Refusal}
-use Rattle.state.specs.declared.Refusal.the-variants.{Size, Crew, Kind, Unsound, OtherTable, NoWorker, Blank, Busy, Full, Working, Shut, ShortList, Spoilt, WrongPrice, NoLine, LongList, Gap, Disorder, BadRecord, BadField, Even}
+use Rattle.state.specs.declared.Refusal.the-variants.{Size, Crew, Kind, Unsound, OtherTable, NoWorker, Blank, Busy, Full, Working, Shut, ShortList, Spoilt, WrongPrice, NoLine, LongList, Gap, Disorder, BadRecord, BadField, Even, Absent}
 use Rattle.state.specs.declared.Reply.{Reply}
 use Rattle.state.specs.declared.Reply.the-variants.{Accepted, Refused}
 use Rattle.protocol.specs.Cases.{Case, DecidesFrom, Decides}
@@ -150,6 +150,7 @@ refusal-number Disorder e = omega arith
 refusal-number BadRecord e = omega arith
 refusal-number BadField e = omega arith
 refusal-number Even e = omega arith
+refusal-number Absent e = omega arith
 
 pub none-accepted : (r : Reply) → replyNumber r ≡ 0 → r ≡ Accepted
 none-accepted Accepted e = refl

@@ -4,6 +4,7 @@ pub mod Chain
 pub mod Frames
 pub mod Homing
 pub mod Keeping
+pub mod Limits
 pub mod Lines
 pub mod Meeting
 pub mod Opening

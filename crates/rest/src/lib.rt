@@ -1,4 +1,4 @@
-// The calls on a table at rest: check, count and list, each by the hash function that the table is used with. They need no phase.
+// What is done to a table at rest: check, count and list, each by the hash function that the table is used with, and emptying it. No phase is needed.
 use homes::Hash;
 use state::Counted;
 use state::Device;
@@ -7,6 +7,7 @@ use state::Refusal;
 use state::Reply;
 ghost use mathlib.Core.Path.{_≡_};
 ghost use denote.Ref.{ptr};
+ghost use lib.ListN.{length, replicate};
 ghost use Rattle.state.specs.Model.{modelOf};
 ghost use Rattle.tables.specs.Calls.{checkCall, countCall, listCall, listAfter, listFront};
 
@@ -60,5 +61,16 @@ pub fn list_front<'a>(
     match listed {
         Counted::Count(count) => &mut out[..count],
         Counted::Refused(_) => &mut out[..0],
+    }
+}
+
+// Empties a table.
+pub fn clear(cells: &mut [u64])
+    ensures { λ r. ⌜ now (cells .exit) ≡ replicate (length (now (cells .entry))) 0 ⌝ }
+{
+    let mut i: usize = 0;
+    while i < cells.len() {
+        cells[i] = 0;
+        i += 1;
     }
 }

@@ -3,9 +3,9 @@ use Prim.Native.Nat.{_-_, _≤_}
 use native.Mathlib.Omega.{arith}
 use lib.ListN.{length, take, replicate, length-set}
 use borrow.Author.Needs.{needs}
-use Rattle.answering.proofs.Store.{cleared-on, cleared}
-use Rattle.answering.proofs.clear.Statement.{statement}
-use Rattle.answering.proofs.clear.Tie as tie
+use Rattle.rest.proofs.Clearing.{cleared-on, cleared}
+use Rattle.rest.proofs.clear.Statement.{statement}
+use Rattle.rest.proofs.clear.Tie as tie
 
 abbrev Inv-loop : tie.InvT-loop
 Inv-loop cells₀ i₀ cells i =

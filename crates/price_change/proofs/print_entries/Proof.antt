@@ -1,0 +1,50 @@
+use Prim.Native.Nat.{_≤_, _-_}
+use lib.ListN.{length}
+use borrow.Author.Needs.{needs}
+use Rattle.price_change.proofs.print_entries.Statement.{statement}
+use Rattle.price_change.proofs.print_entries.Tie as tie
+
+abbrev Inv-loop : tie.InvT-loop
+Inv-loop entries i₀ i = i ≤ length entries
+
+abbrev μ-loop : tie.MeasureT-loop
+μ-loop entries i₀ i = length entries - i
+
+loop-holds : tie.Need-loop-holds Inv-loop μ-loop
+loop-holds c = search needs
+
+mul-print-entry : tie.Need-mul-print-entry Inv-loop μ-loop
+mul-print-entry c = search needs
+
+shared-slice-read-print-entry : tie.Need-shared-slice-read-print-entry Inv-loop μ-loop
+shared-slice-read-print-entry c = search needs
+
+print-entry-requires : tie.Need-print-entry-requires Inv-loop μ-loop
+print-entry-requires c κs = search needs
+
+add-i : tie.Need-add-i Inv-loop μ-loop
+add-i c = search needs
+
+loop-less : tie.Need-loop-less Inv-loop μ-loop
+loop-less c = search needs
+
+loop-again : tie.Need-loop-again Inv-loop μ-loop
+loop-again c = search needs
+
+returns : tie.Need-returns Inv-loop μ-loop
+returns c = search needs
+
+pub print-entries-spec : {M : Type 1} → statement M
+print-entries-spec =
+    tie.close
+    (tie.spec
+    Inv-loop
+    μ-loop
+    loop-holds
+    mul-print-entry
+    shared-slice-read-print-entry
+    print-entry-requires
+    add-i
+    loop-less
+    loop-again
+    returns)

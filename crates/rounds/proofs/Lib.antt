@@ -1,0 +1,12 @@
+pub mod Acks
+pub mod Cases
+pub mod Closing
+pub mod Entries
+pub mod Examples
+pub mod Laid
+pub mod Lines
+pub mod Round
+pub mod Sending
+pub mod Sizes
+pub mod Sounds
+pub mod Theorem

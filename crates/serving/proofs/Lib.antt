@@ -1,0 +1,4 @@
+pub mod Fitting
+pub mod Given
+pub mod Serving
+pub mod Telling
