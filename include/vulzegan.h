@@ -26,7 +26,7 @@ extern "C" {
 /* Values: a count, the price that a find found, or VULZEGAN_ACCEPTED where a call gives no value and is not refused. */
 #define VULZEGAN_ACCEPTED UINT64_C(0)
 
-/* Refusals: VULZEGAN_REFUSED + the number of documents 01 and 02, 1 to 21; 22 is for a single reply of a round. A refusal changes nothing. */
+/* Refusals: VULZEGAN_REFUSED + the number of documents 01 and 02, 1 to 21 and 23; 22 is for a single reply of a round. A refusal changes nothing. */
 #define VULZEGAN_REFUSED UINT64_C(4294967296)
 
 /* The refusals of a table that is not sound. UNSOUND: no cell is empty, or some cell other than 0 has no key or a price outside the limits.
@@ -40,9 +40,12 @@ extern "C" {
 #define VULZEGAN_BAD_RECORD (VULZEGAN_REFUSED + 19)
 #define VULZEGAN_BAD_FIELD (VULZEGAN_REFUSED + 20)
 
-/* The refusal of an even a, in every function that takes a: at the opening of a phase behind 1, 2 and 3, where a round is opened or closed behind
- * 1 and 2, in all of these before 16 and all others; elsewhere behind 1. */
+/* The refusal of an even a, in every function that takes a: at the opening of a phase behind 1, 2 and 3, where a round is opened or closed or a
+ * move is opened behind 1 and 2, in all of these before 16 and all others; elsewhere behind 1. */
 #define VULZEGAN_EVEN (VULZEGAN_REFUSED + 21)
+
+/* The refusal of a table to move to: some cell is not 0, or it has no more cells than there are keys to move. */
+#define VULZEGAN_UNFIT (VULZEGAN_REFUSED + 23)
 
 /* The answers to the single replies of a round, each of 32 bits: ACCEPTED, or the number of documents 01 and 02. BLANK: the key is 0. NO_WORKER:
  * the worker is not below count. ABSENT: the table that was lent has no such key. The first to apply, in this sequence. */
@@ -77,7 +80,7 @@ struct vulzegan_order {
 
 /* Whether a phase of a kind (1 insert, 2 delete, 3 find) with count workers opens on cells by a and b: VULZEGAN_ACCEPTED or a refusal.
  * An insert phase opens for a list of at most 65,536 orders, whose keys and those of the table, each counted once, are fewer than the cells.
- * The other kinds do not read the list. Opening takes some 185 KB of stack, here and below. */
+ * The other kinds do not read the list. Opening a phase takes some 185 KB of stack, here and in all functions below but that of moves. */
 uint64_t vulzegan_open(uint64_t kind, uint64_t count, uint32_t a, uint32_t b, const uint64_t *cells, size_t cells_len,
                        const struct vulzegan_order *orders, size_t orders_len);
 
@@ -148,6 +151,23 @@ uint64_t vulzegan_round_close(uint64_t count, uint32_t a, uint32_t b, uint64_t *
                               const uint32_t *workers, size_t workers_len, uint32_t *answers, size_t answers_len,
                               uint64_t *out, size_t out_len);
 
+/* Moves the keys of the table old to the table cells, which is longer, as long or shorter, by count workers: opens the move, VULZEGAN_ACCEPTED or a
+ * refusal. One a and b serve both tables. If it opens, applies calls 0, 1, .. in order, as many as the shortest of ops, workers and answers has:
+ * orders and turns as above, which read workers[i] alone, and any other operation is a close. answers[i] takes the answer of call i: of an
+ * order or a close VULZEGAN_ACCEPTED or a refusal, of a turn a word or a refusal. Places behind the answers keep their contents.
+ * An order gives the worker the next cell of old, from cell 0 up. The worker's first turn reads that cell, and if it is empty finishes; otherwise
+ * the next turns insert its key and price into cells, one cell a turn. Once a close is accepted, cells are the table that is sound by a and b with
+ * the keys of old and no others, each at its price. Without one they hold the part that was moved so far: the record is not kept, and a move
+ * cannot be carried on by another call. old is not changed.
+ *
+ * The refusals of the opening, first to apply: 1 for the number of cells of either table, 2 if count is not 1 to 16, VULZEGAN_EVEN; then
+ * VULZEGAN_UNSOUND, VULZEGAN_GAP and VULZEGAN_DISORDER for old; at last VULZEGAN_UNFIT for cells. Those of an order, first to apply: 11 behind an
+ * accepted close, 6 for a worker not below count, 8 for one whose order is unfinished, 9 if every cell of old was ordered. Those of a turn: 11 and 6.
+ * Those of a close: 11, and 10 while some order is unfinished or some cell of old was not ordered. This takes some 23 KB of stack. */
+uint64_t vulzegan_run_moves(uint64_t count, uint32_t a, uint32_t b, const uint64_t *old, size_t old_len, uint64_t *cells, size_t cells_len,
+                            const uint32_t *ops, size_t ops_len, const uint32_t *workers, size_t workers_len,
+                            uint64_t *answers, size_t answers_len);
+
 /* The functions of libkiosk.a, for a smaller model. There a table has 2 to 256 cells, and a phase 1 to 4 workers: each does as the function without
  * kiosk_ in its name, but answers 1 and 2 by these limits. What both models take gets the same answers and closes alike in both. */
 uint64_t vulzegan_kiosk_check(uint32_t a, uint32_t b, const uint64_t *cells, size_t cells_len);
@@ -176,6 +196,9 @@ uint64_t vulzegan_kiosk_round_open(uint64_t count, uint32_t a, uint32_t b, uint6
 uint64_t vulzegan_kiosk_round_close(uint64_t count, uint32_t a, uint32_t b, uint64_t *cells, size_t cells_len,
                                     const uint32_t *keys, size_t keys_len, const uint32_t *workers, size_t workers_len,
                                     uint32_t *answers, size_t answers_len, uint64_t *out, size_t out_len);
+uint64_t vulzegan_kiosk_run_moves(uint64_t count, uint32_t a, uint32_t b, const uint64_t *old, size_t old_len, uint64_t *cells, size_t cells_len,
+                                  const uint32_t *ops, size_t ops_len, const uint32_t *workers, size_t workers_len,
+                                  uint64_t *answers, size_t answers_len);
 
 #ifdef __cplusplus
 }

@@ -8,9 +8,10 @@ use std::path::Path;
 use std::process::{Command, Stdio};
 use std::time::Instant;
 
-use conformance::shifts::calls_of;
+use conformance::shifts::{calls_of, dealt_move};
 use conformance::{
-    close, order, order_line, read_till, reference_open, reference_run, round_close, round_open, turn, Call, Calls, Orders, Replies, REFUSED,
+    close, order, order_line, read_till, reference_open, reference_run, reference_run_moves, round_close, round_open, turn, Call, Calls, Orders,
+    Replies, REFUSED,
 };
 use reference::generate::factory::{self, GOLDEN};
 use reference::generate::till::{written, Quotes, Record};
@@ -305,6 +306,7 @@ fn kiosks() {
     let tables: Vec<_> = (0..TABLES).map(|number| TAME.share(cells, 0.95, number)).collect();
     Work { model: KIOSK, rounds: 61, repeat: 1024 }.at_rest(&format!("{place}95.0 % full, {}", TAME.name), HOMES, &tables);
     turns(KIOSK, cells, &place);
+    moves(KIOSK, 200, cells, cells);
 }
 
 /// The label factory's case, with homes that crowd and homes that spread: whole shifts of sixteen workers as one batch, turns dealt round and round,
@@ -521,6 +523,32 @@ fn rounds() {
     line(&format!("round closed, {REPLIES} replies to {} labels in {CELLS} cells", sent.len()), "µs", 1e6, times);
 }
 
+/// A move of so many labels from one table to another by as many workers as the model has, as one batch: each worker in turn gets the next old cell if
+/// it is idle, else a turn.
+fn moves(model: Model, labels: usize, from: usize, to: usize) {
+    let old = TAME.table(from, labels, 0);
+    let crew = model.max_workers as u32;
+    let mut workers = (0..crew).cycle();
+    let calls = dealt_move(model, crew, HOMES, &old, to, || workers.next().expect("a worker"));
+    let list = Calls::of(&calls);
+    let (mut ours, mut theirs) = (vec![0; to], vec![0; to]);
+    let (mut said, mut expected) = (vec![0; calls.len()], vec![0; calls.len()]);
+    let times = alternate(
+        61,
+        || {
+            ours.fill(0);
+            seconds(|| assert_eq!(list.run_moves(model, crew.into(), HOMES, black_box(&old), &mut ours, &mut said), Ok(())))
+        },
+        || {
+            theirs.fill(0);
+            seconds(|| assert_eq!(reference_run_moves(model, crew.into(), HOMES, black_box(&old), &mut theirs, &calls, &mut expected), Ok(())))
+        },
+    );
+    assert_eq!((ours, said.last()), (theirs, Some(&0)));
+    assert_eq!(said, expected);
+    line(&format!("moving {labels} labels from {from} to {to} cells, {crew} workers, {} calls", calls.len()), "µs", 1e6, times);
+}
+
 fn main() {
     let target = std::env::var("VULZEGAN_TARGET").expect("VULZEGAN_TARGET names rt's target folder");
     println!("| job | proved | reference | ratio |\n|---|---|---|---|");
@@ -528,6 +556,7 @@ fn main() {
     turns(GATEWAY, 4096, "");
     tills();
     rounds();
+    moves(GATEWAY, 4000, 4096, CELLS);
     openings();
     at_rest();
     factory();

@@ -2,11 +2,13 @@
 
 use reference::layout::Homes;
 use reference::model::{Model, GATEWAY, KIOSK};
+use reference::moving::Move;
 use reference::phase::{Answer, Order, Phase};
 use reference::round::{self, Reply};
 use reference::till;
 
 pub mod shifts;
+pub mod trials;
 
 mod raw {
     /// A line of the list of orders, as C lays it out.
@@ -112,6 +114,22 @@ mod raw {
         room: usize,
     ): vulzegan_round_close vulzegan_kiosk_round_close);
 
+    functions!(RunMoves(
+        count: u64,
+        a: u32,
+        b: u32,
+        old: *const u64,
+        old_length: usize,
+        cells: *mut u64,
+        length: usize,
+        ops: *const u32,
+        ops_length: usize,
+        workers: *const u32,
+        workers_length: usize,
+        answers: *mut u64,
+        answers_length: usize,
+    ): vulzegan_run_moves vulzegan_kiosk_run_moves);
+
     /// The functions of a model.
     pub struct Functions {
         pub check: AtRest,
@@ -123,6 +141,7 @@ mod raw {
         pub read_till: ReadTill,
         pub round_open: RoundOpen,
         pub round_close: RoundClose,
+        pub run_moves: RunMoves,
     }
 
     pub static GATEWAY: Functions = Functions {
@@ -135,6 +154,7 @@ mod raw {
         read_till: vulzegan_read_till,
         round_open: vulzegan_round_open,
         round_close: vulzegan_round_close,
+        run_moves: vulzegan_run_moves,
     };
 
     pub static KIOSK: Functions = Functions {
@@ -147,6 +167,7 @@ mod raw {
         read_till: vulzegan_kiosk_read_till,
         round_open: vulzegan_kiosk_round_open,
         round_close: vulzegan_kiosk_round_close,
+        run_moves: vulzegan_kiosk_run_moves,
     };
 }
 
@@ -440,6 +461,27 @@ impl Calls {
     pub fn run_singly(&self, model: Model, kind: u64, count: u64, homes: Homes, cells: &mut [u64], orders: &Orders, answers: &mut [u64]) -> u64 {
         self.run_by(library(model).run_calls_singly, kind, count, homes, cells, orders, answers)
     }
+
+    /// Opens a move from the old table to cells and applies the calls, of which lines and keys are not read.
+    pub fn run_moves(&self, model: Model, count: u64, Homes { a, b }: Homes, old: &[u64], cells: &mut [u64], answers: &mut [u64]) -> Result<(), u8> {
+        accepted(unsafe {
+            (library(model).run_moves)(
+                count,
+                a,
+                b,
+                old.as_ptr(),
+                old.len(),
+                cells.as_mut_ptr(),
+                cells.len(),
+                self.ops.as_ptr(),
+                self.ops.len(),
+                self.workers.as_ptr(),
+                self.workers.len(),
+                answers.as_mut_ptr(),
+                answers.len(),
+            )
+        })
+    }
 }
 
 /// The answer for a refusal, by the papers' number, which the reference gives.
@@ -487,4 +529,30 @@ pub fn reference_run(
         };
     }
     0
+}
+
+/// The answer of a call of a move by the reference.
+pub fn reference_move_call(model: Model, record: &mut Move, old: &[u64], cells: &mut [u64], call: Call) -> u64 {
+    match call.op {
+        1 => record.order(model, call.worker.into()).map_or_else(refused, |()| 0),
+        2 => record.turn(model, old, cells, call.worker.into()).map_or_else(refused, told),
+        _ => record.close(model).map_or_else(refused, |()| 0),
+    }
+}
+
+/// The opening of a move and the calls by the reference.
+pub fn reference_run_moves(
+    model: Model,
+    count: u64,
+    homes: Homes,
+    old: &[u64],
+    cells: &mut [u64],
+    calls: &[Call],
+    answers: &mut [u64],
+) -> Result<(), u8> {
+    let mut record = Move::open(model, count, homes, old, cells)?;
+    for (&call, place) in calls.iter().zip(answers) {
+        *place = reference_move_call(model, &mut record, old, cells, call);
+    }
+    Ok(())
 }

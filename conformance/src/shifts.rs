@@ -1,9 +1,10 @@
-//! Whole shifts: the calls from an opening to its close, and the table that a shift closes on.
+//! Whole shifts and moves: the calls from an opening to its close, and the table that a shift closes on.
 
 use reference::generate::factory::Step;
 use reference::generate::Rng;
 use reference::layout::{label_of, layout, price_of, Homes, Prices};
 use reference::model::Model;
+use reference::moving::{Move, Task};
 use reference::phase::{Activity, Order, Phase, PUT_IN, TAKE_OUT};
 
 use crate::{close, order, order_line, turn, Call};
@@ -47,6 +48,26 @@ pub fn dealt(random: &mut Rng, model: Model, kind: u32, crew: u32, homes: Homes,
                 phase.turn(model, &mut table, worker.into()).expect("a turn");
                 calls.push(turn(worker));
             }
+        }
+    }
+    calls.push(close());
+    calls
+}
+
+/// The calls of a move from a table to so many empty cells, from the opening to the close: each for the worker that is picked next, an order if it is
+/// idle and an old cell is left.
+pub fn dealt_move(model: Model, crew: u32, homes: Homes, old: &[u64], cells: usize, mut pick: impl FnMut() -> u32) -> Vec<Call> {
+    let mut new = vec![0; cells];
+    let mut record = Move::open(model, crew.into(), homes, old, &new).expect("a sound table and room for its labels");
+    let mut calls = Vec::new();
+    while record.next < old.len() || !record.all_idle() {
+        let worker = pick();
+        if record.workers[worker as usize] == Task::IDLE && record.next < old.len() {
+            record.order(model, worker.into()).expect("an idle worker");
+            calls.push(order(worker, 0));
+        } else {
+            record.turn(model, old, &mut new, worker.into()).expect("a turn");
+            calls.push(turn(worker));
         }
     }
     calls.push(close());

@@ -273,15 +273,15 @@ fn numbers_of_the_header() {
     for (n, name) in [(1, "WENT_ON"), (2, "FINISHED"), (4, "NO"), (5, "IDLE")] {
         assert_eq!(meaning(&format!("VULZEGAN_{name}")), format!("(VULZEGAN_WORDS + {n})"));
     }
-    for (n, name) in [(4, "UNSOUND"), (17, "GAP"), (18, "DISORDER"), (19, "BAD_RECORD"), (20, "BAD_FIELD"), (21, "EVEN")] {
+    for (n, name) in [(4, "UNSOUND"), (17, "GAP"), (18, "DISORDER"), (19, "BAD_RECORD"), (20, "BAD_FIELD"), (21, "EVEN"), (23, "UNFIT")] {
         assert_eq!(meaning(&format!("VULZEGAN_{name}")), format!("(VULZEGAN_REFUSED + {n})"));
     }
     for (n, name) in [(0, "ACCEPTED"), (6, "NO_WORKER"), (7, "BLANK"), (22, "ABSENT")] {
         assert_eq!(meaning(&format!("VULZEGAN_REPLY_{name}")), format!("UINT32_C({n})"));
     }
-    assert!(header.contains("VULZEGAN_REFUSED + the number of documents 01 and 02, 1 to 21;"));
+    assert!(header.contains("VULZEGAN_REFUSED + the number of documents 01 and 02, 1 to 21 and 23;"));
     let functions: Vec<&str> = header.lines().filter(|l| l.contains(" vulzegan_") && l.contains('(')).collect();
-    assert!(functions.len() == 18 && functions.iter().all(|l| l.starts_with("uint64_t vulzegan_")), "{functions:?}");
+    assert!(functions.len() == 20 && functions.iter().all(|l| l.starts_with("uint64_t vulzegan_")), "{functions:?}");
     let text = header.split_whitespace().collect::<Vec<_>>().join(" ");
     // the parameters of each function; those for kiosks have the same
     let declared = |text: &str| -> BTreeMap<String, String> {
@@ -291,7 +291,7 @@ fn numbers_of_the_header() {
     let (kiosk, gateway): (BTreeMap<_, _>, BTreeMap<_, _>) = declared(&text).into_iter().partition(|(name, _)| name.starts_with("kiosk_"));
     assert_eq!(
         Vec::from_iter(gateway.keys()),
-        ["check", "count", "list", "open", "read_till", "round_close", "round_open", "run_calls", "run_calls_singly"]
+        ["check", "count", "list", "open", "read_till", "round_close", "round_open", "run_calls", "run_calls_singly", "run_moves"]
     );
     assert_eq!(kiosk, gateway.into_iter().map(|(name, of)| (format!("kiosk_{name}"), of)).collect());
     for (list, times) in [
@@ -308,6 +308,8 @@ fn numbers_of_the_header() {
         ("(uint64_t count, uint32_t a, uint32_t b, uint64_t *cells, size_t cells_len, const uint32_t *keys, size_t keys_len,", 4),
         ("const uint32_t *prices, size_t prices_len, const uint32_t *workers, size_t workers_len);", 2),
         ("const uint32_t *workers, size_t workers_len, uint32_t *answers, size_t answers_len,", 2),
+        ("(uint64_t count, uint32_t a, uint32_t b, const uint64_t *old, size_t old_len, uint64_t *cells, size_t cells_len,", 2),
+        ("const uint32_t *ops, size_t ops_len, const uint32_t *workers, size_t workers_len, uint64_t *answers, size_t answers_len);", 2),
     ] {
         assert_eq!(text.matches(list).count(), times, "{list}");
     }

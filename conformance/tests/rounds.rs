@@ -3,6 +3,7 @@
 
 use std::collections::{BTreeMap, BTreeSet};
 
+use conformance::trials::{cells, guarded, some_cells, Tally, GUARD, NO_COUNTS};
 use conformance::{for_both_models, reference_round_close, reference_round_open, round_close, round_open, Orders, Replies, MODELS};
 use reference::generate::round::replies;
 use reference::generate::{
@@ -29,12 +30,6 @@ for_both_models! {
     the_greatest_rounds,
 }
 
-/// Worker counts that get 2 in both models.
-const NO_COUNTS: [u64; 6] = [0, 17, 1 << 32, (1 << 32) + 1, (1 << 63) + 3, u64::MAX];
-
-/// Places behind what is lent, which are not lent.
-const GUARD: usize = 2;
-
 /// A line of the list sent.
 fn line(worker: u32, label: u32, price: u32) -> Order {
     Order { worker, label, price }
@@ -42,16 +37,6 @@ fn line(worker: u32, label: u32, price: u32) -> Order {
 
 fn reply(worker: u32, label: u32) -> Reply {
     Reply { worker, label }
-}
-
-/// Contents of these labels at price 1; 0 is an empty cell.
-fn cells<const N: usize>(labels: [u32; N]) -> [u64; N] {
-    labels.map(|label| content(label, label.min(1)))
-}
-
-/// These numbers, and behind them some that are not lent.
-fn guarded<T: Clone>(lent: &[T], random: impl FnMut() -> T) -> Vec<T> {
-    lent.iter().cloned().chain(std::iter::repeat_with(random).take(GUARD)).collect()
 }
 
 /// An opening by the library and by the reference: the same answer and the same cells, and a refusal leaves them as they were. The table left.
@@ -135,33 +120,6 @@ fn same_closing(
     places: (usize, usize),
 ) -> Result<Left, u8> {
     same_closing_of(random, model, count, homes, table, Replies::of(replies).lists(), places)
-}
-
-/// How often each answer was given: a refusal's number, or 0.
-#[derive(Default)]
-struct Tally(BTreeMap<u8, usize>);
-
-impl Tally {
-    fn take<T>(&mut self, answer: &Result<T, u8>) {
-        let number = answer.as_ref().err().copied().unwrap_or(0);
-        *self.0.entry(number).or_default() += 1;
-    }
-
-    /// These came up, each at least so often, and nothing else.
-    fn each(self, numbers: &[u8], least: usize) {
-        let seen: Vec<u8> = self.0.keys().copied().collect();
-        assert_eq!(seen, numbers, "{:?}", self.0);
-        assert!(self.0.values().all(|&often| often >= least), "{:?}", self.0);
-    }
-}
-
-/// A number of cells: few, some around the kiosk's most, or now and then the model's most and around it.
-fn some_cells(random: &mut Rng, model: Model) -> usize {
-    match random.below(1000) {
-        0 => model.max_cells - 1 + random.below(3),
-        1..=20 => random.within(250, 260),
-        _ => random.within(2, 20),
-    }
 }
 
 /// A list for a round on so many cells: new labels, with repeats, or all labels of a table and new ones.

@@ -5,6 +5,7 @@ use std::collections::BTreeMap;
 use std::time::{Duration, Instant};
 
 use conformance::shifts::{closed, dealt, Entry};
+use conformance::trials::GUARD;
 use conformance::{close, for_both_models, lines_of, read_till, reference_read_till, reference_run, Calls, Orders, MODELS, REFUSED};
 use reference::generate::till::{all_texts, damaged, good, nick, number, written, Quotes, BYTES, PIECES};
 use reference::generate::{homes, price, table, Rng};
@@ -35,9 +36,6 @@ const BEHIND: [&[u8]; 8] = [b"5,6\r\n", b",6\r\n", b"\",6\r\n", b"\r\n1,2", b"\n
 
 /// What may stand before it: an end of this.
 const BEFORE: &[u8] = b"1,\"2\r\n,\"0";
-
-/// Places behind a lent list, which are not lent.
-const GUARD: usize = 2;
 
 /// The places that are lent.
 fn lent([keys, prices, workers]: &mut [Vec<u32>; 3], lengths: [usize; 3]) -> [&mut [u32]; 3] {

@@ -11,6 +11,7 @@
 //! others, and goes on with them if they open it.
 
 pub mod factory;
+pub mod moving;
 pub mod round;
 pub mod till;
 

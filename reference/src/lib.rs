@@ -6,6 +6,7 @@ pub mod generate;
 pub mod layout;
 pub mod listing;
 pub mod model;
+pub mod moving;
 pub mod phase;
 pub mod round;
 pub mod sheet;
@@ -42,4 +43,6 @@ pub mod refusal {
     pub const EVEN: u8 = 21;
     /// A reply's label isn't in the table.
     pub const ABSENT: u8 = 22;
+    /// The new table isn't all empty, or has no more cells than there are labels.
+    pub const UNFIT: u8 = 23;
 }

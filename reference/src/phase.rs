@@ -276,7 +276,7 @@ fn labels_together(table: &[u64], orders: &[Order]) -> usize {
 
 impl Activity {
     /// Has the activity a number out of bounds, or does the kind lack it?
-    fn breaks_bound(&self, kind: u32, length: usize) -> bool {
+    pub(crate) fn breaks_bound(&self, kind: u32, length: usize) -> bool {
         let blank = |entry| label_of(entry) == 0;
         match *self {
             Idle => false,
@@ -301,7 +301,7 @@ impl Activity {
     }
 }
 
-fn put_in(activity: &mut Activity, table: &mut [u64]) -> Answer {
+pub(crate) fn put_in(activity: &mut Activity, table: &mut [u64]) -> Answer {
     let n = table.len();
     match *activity {
         Idle => return Answer::Idle,

@@ -13,6 +13,7 @@ ghost use Rattle.tables.specs.Calls.{checkCall, countCall};
 ghost use Rattle.numbered.specs.Numbers.{replyAnswer};
 ghost use Rattle.numbered.specs.Batch.{Promised};
 ghost use Rattle.rounds.specs.Rounds.{acksOf};
+ghost use Rattle.migration.specs.Lists.{MoveNumbers, MovePromised};
 ghost use Rattle.answers.specs.Numbers.{countedAnswer, ListNumbers, TillNumbers, RunNumbers, OpenNumbers, CloseNumbers};
 
 // ---- answers
@@ -210,4 +211,36 @@ pub fn close_round(
         out,
     );
     counted_answer(closed)
+}
+
+// ---- moves
+// Opens a migration from a table to a new one and, if the opening is accepted, applies calls: 0, or the number of the opening's refusal.
+pub fn run_moves(
+    device: Device,
+    count: u64,
+    a: u32,
+    b: u32,
+    old: &[u64],
+    cells: &mut [u64],
+    ops: &[u32],
+    workers: &[u32],
+    answers: &mut [u64],
+) -> u64
+    ensures is_run { λ r. ⌜ MoveNumbers (modelOf device) count (hashOf a b) (now (old .entry)) (now (cells .entry))
+        (now (ops .entry)) (now (workers .entry)) (now (answers .entry)) r (now (old .exit)) (now (cells .exit)) (now (answers .exit)) ⌝ }
+    ensures promise { λ r. ⌜ MovePromised (modelOf device) count (hashOf a b) (now (old .entry)) (now (cells .entry))
+        (now (ops .entry)) (now (workers .entry)) (now (answers .entry)) ⌝ }
+{
+    let ran = hauling::run_moves(
+        device,
+        count,
+        Hash { a, b },
+        old,
+        cells,
+        ops,
+        workers,
+        answers,
+    );
+    let reply = ran.reply;
+    reply_answer(reply)
 }

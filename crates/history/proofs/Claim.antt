@@ -46,7 +46,7 @@ use Rattle.history.specs.History.{History}
 use Rattle.history.specs.Promise.{entriesAfter, AsOpened, Carried, present}
 use Rattle.history.proofs.Opening.{by-kinds}
 use Rattle.history.proofs.Simulation.{Shows}
-use Rattle.history.proofs.Standing.{price-ok, somewhere, same-entries, same-least, standing, fewer}
+use Rattle.history.proofs.Standing.{price-ok, somewhere, same-behind, same-least, standing, fewer}
 use Rattle.history.proofs.Taking.{Taken}
 
 -- ---- what is known of a run, by its kind
@@ -116,13 +116,7 @@ module _ (k n m : ℕ) (ab : Hash) (home : ℕ → ℕ) (t : List ℕ) (s : Hist
   -- with what stands in the table
   present-same : (y : ℕ) → y ≢ 0 → In y (present s) ↔ In y (phases.present r)
   present-same y nz =
-      let xs : List ℕ = map (λ (x : Worker). entryOf (x .activity)) (s .phase .workers) in
-      let ys : List ℕ = map entryOf (r .workers) in
-      let c = same-entries xs ys carried-at y nz in
-      rw (h .table) (
-        λ i. in-append (r .table) ys y .1 (⊎-map (λ j. j) (c .0) (in-append (r .table) xs y .0 i)),
-        λ i. in-append (r .table) xs y .1 (⊎-map (λ j. j) (c .1) (in-append (r .table) ys y .0 i)),
-      )
+      rw (h .table) (same-behind (r .table) (map (λ (x : Worker). entryOf (x .activity)) (s .phase .workers)) (map entryOf (r .workers)) carried-at y nz)
 
   pub prices : SameLeast label (present s) (s .ordered ++ t)
   prices y nz = rw (h .ordered) (Iff·trans (same-least (present s) (phases.present r) present-same y nz) (o .prices y nz))

@@ -1,7 +1,7 @@
 -- What stands in a list of entries: place by place, with the least prices, and in the layout.
 use mathlib.Core.Path.{_≡_, refl, sym, ap, _∙_}
-use mathlib.Core.Logic.{_≢_, _↔_}
-use mathlib.Core.List.{List}
+use mathlib.Core.Logic.{_≢_, _↔_, ⊎-map}
+use mathlib.Core.List.{List, _++_}
 use Prim.Native.Nat.{ℕ, suc, _≤_, _<_}
 use native.Mathlib.Omega.{arith}
 use lib.Dec.{T}
@@ -9,7 +9,7 @@ use lib.ListN.{length, getD}
 use borrow.Author.Tests.{le-leb}
 use Rattle.layout.specs.Layout.{In, size, without}
 use Rattle.layout.proofs.Canonical.{sound-size}
-use Rattle.layout.proofs.Sets.{holds-in, in-holds, in-without, subset-size}
+use Rattle.layout.proofs.Sets.{holds-in, in-holds, in-append, in-without, subset-size}
 use Rattle.prices.specs.Contents.{label, priceOk, SoundTable}
 use Rattle.prices.specs.Priced.{labels, Least, SameLeast, pricedLayout, withoutLabels}
 use Rattle.prices.proofs.Labels.{labels-without}
@@ -31,6 +31,14 @@ same-entries xs ys same y nz = (
   λ i. let (j, is) = somewhere xs y nz .0 i in somewhere ys y nz .1 (j, sym (same j) ∙ is),
   λ i. let (j, is) = somewhere ys y nz .0 i in somewhere xs y nz .1 (j, same j ∙ is),
 )
+
+-- also behind a table
+pub same-behind : (t xs ys : List ℕ) → ((i : ℕ) → getD xs i 0 ≡ getD ys i 0) → (y : ℕ) → y ≢ 0 → In y (t ++ xs) ↔ In y (t ++ ys)
+same-behind t xs ys same y nz =
+    let c = same-entries xs ys same y nz in (
+      λ i. in-append t ys y .1 (⊎-map (λ j. j) (c .0) (in-append t xs y .0 i)),
+      λ i. in-append t xs y .1 (⊎-map (λ j. j) (c .1) (in-append t ys y .0 i)),
+    )
 
 -- and the same least prices
 pub same-least : (xs ys : List ℕ) → ((y : ℕ) → y ≢ 0 → In y xs ↔ In y ys) → SameLeast label xs ys

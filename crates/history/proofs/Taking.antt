@@ -4,7 +4,7 @@ use mathlib.Core.Logic.{_≢_, ⊎-elim}
 use mathlib.Core.List.{List, [], _∷_}
 use Prim.Native.Nat.{ℕ, _≤_}
 use native.Mathlib.Omega.{arith}
-use lib.ListN.{length, getD}
+use lib.ListN.{getD}
 use borrow.Author.Tests.{eq-eqb}
 use Rattle.layout.specs.Layout.{In}
 use Rattle.prices.specs.Contents.{label, price, content}
@@ -18,7 +18,7 @@ use Rattle.protocol.specs.Calls.{asked, entryFor, closeReply, foundReply, turnC
 use Rattle.protocol.proofs.Chain.{by-reply}
 use Rattle.protocol.proofs.Pricing.{entry-priced, entry-bare, entry-key}
 use Rattle.protocol.proofs.Theorem.{Passed, order-passed, turns}
-use Rattle.history.specs.History.{Call, order, turn, close, History, afterTurn, call, run}
+use Rattle.history.specs.History.{Call, order, turn, close, History, call, run}
 use Rattle.history.specs.Promise.{Acceptable, OfLine}
 use Rattle.history.proofs.Keeping.{turn-phase, turn-ordered}
 

@@ -1,6 +1,7 @@
 -- The kiosk's examples, computed, and the corollaries of the promise on both models.
 use mathlib.Core.Path.{_≡_, refl, ap, ap₂}
 use mathlib.Core.Bool.{true}
+use mathlib.Core.Logic.{_↔_}
 use mathlib.Core.List.{List, [], _∷_, _++_, map}
 use Prim.Native.Nat.{ℕ}
 use lib.Dec.{ltb}
@@ -8,7 +9,7 @@ use lib.ListN.{length}
 use native.Mathlib.Omega.{arith}
 use Rattle.ring.specs.Each.{all, some, first}
 use Rattle.ring.specs.Ring.{wrap, probe, dist, prev}
-use Rattle.layout.specs.Layout.{into, descending, listed}
+use Rattle.layout.specs.Layout.{In, into, descending, listed}
 use Rattle.homes.specs.Homes.{plain}
 use Rattle.prices.specs.Contents.{label}
 use Rattle.prices.specs.Priced.{lesser, least}
@@ -42,8 +43,13 @@ use Rattle.till.specs.Till.{readingOf, readBehind, frontOf, dealt, tillAfter}
 use Rattle.examples.specs.Forms.{emptyCells, callsOf}
 use Rattle.examples.specs.Examples.{four, sheetItems, sheetPutsIn}
 use Rattle.examples.specs.Corollaries.{turnsOf, rounds, together, inSequence, threeItems, threePutIn, priceItems, twoPrice, morePriceItems, threePrice}
-use Rattle.examples.proofs.Members.{allIn, leastIn, same-keys, same-orders}
-use Rattle.models.specs.Examples.{lengths, crews, read, KioskExamples, ClosesAlike}
+use Rattle.examples.proofs.Members.{allIn, all-in, leastIn, same-keys, same-orders}
+use Rattle.migration.specs.Calls as migration
+use Rattle.migration.specs.Claim as claim
+use Rattle.migration.specs.Courses as courses
+use Rattle.migration.specs.Tasks.{fetched}
+use Rattle.migration.proofs.Theorem as moves
+use Rattle.models.specs.Examples.{lengths, crews, read, inSix, inSeven, KioskExamples, KioskMoves, ClosesAlike}
 
 -- ---- till lists
 tills-read : (map (read kiosk) crews ≡ 2 ∷ 0 ∷ 0 ∷ 2 ∷ 2 ∷ 2 ∷ [])
@@ -133,6 +139,50 @@ kiosk-examples = record {
   till-list = tills-read .2;
 }
 
+-- ---- migrations
+sheet-moved : (courses.after kiosk 2 plain four (emptyCells 7) (claim.rounds 2 12) .new ≡ inSeven)
+    × (courses.after kiosk 2 plain four (emptyCells 7) (claim.rounds 2 12) .old ≡ four)
+    × (courses.after kiosk 2 plain four (emptyCells 7) (claim.rounds 2 12) .closed ≡ true)
+unfolding sameTable claim.rounds claim.visits courses.run courses.call migration.isWellFormed fetched placeOf tally bits.ones
+    meetsEmpty meetsKey first all some dist probe wrap rule settled absorbed insertStep
+sheet-moved =
+    let s = courses.after kiosk 2 plain four (emptyCells 7) (claim.rounds 2 12) in (
+      same-table (s .new) inSeven tt,
+      same-table (s .old) four tt,
+      refl,
+    )
+
+pub kiosk-moves : KioskMoves
+unfolding migration.isWellFormed fetched placeOf tally bits.ones meetsEmpty meetsKey first all some dist probe wrap
+kiosk-moves = record {
+  from = refl;
+  to = refl;
+  gateway-from = refl;
+  gateway-to = refl;
+  workers = refl;
+  gateway-workers = refl;
+  opened = refl;
+  refused = refl;
+  size-first = refl;
+  crew-next = refl;
+  even-next = refl;
+  unfit-next = refl;
+  orders = refl;
+  turns = refl;
+  closes = refl;
+  gateway-orders = refl;
+  gateway-turns = refl;
+  gateway-closes = refl;
+  fifth = refl;
+  fifth-record = refl;
+  fifth-kept = refl;
+  fifth-table = refl;
+  fourth = refl;
+  moved = sheet-moved .0;
+  kept = sheet-moved .1;
+  shut = sheet-moved .2;
+}
+
 -- ---- the two models on one table
 opens : (openReply kiosk 1 2 plain (emptyCells 5) sheetItems ≡ Accepted)
     × (openReply gateway 1 3 plain (emptyCells 5) threeItems ≡ Accepted)
@@ -172,6 +222,19 @@ unfolding allIn listed turnsOf rounds run call isWellFormed meetsEmpty meetsKey 
 take-out-keys =
     same-keys 2 (λ z. omega arith) (after kiosk 2 2 plain four [] together .ordered) (after gateway 2 1 plain four [] inSequence .ordered) tt tt
 
+moves-opened : (migration.openReply kiosk 2 plain four (emptyCells 7) ≡ Accepted) × (migration.openReply gateway 3 plain inSix (emptyCells 7) ≡ Accepted)
+unfolding placeOf tally bits.ones meetsEmpty meetsKey first all some dist probe wrap
+moves-opened = (refl, refl)
+
+six-moved : courses.after gateway 3 plain inSix (emptyCells 7) (claim.rounds 3 9) .closed ≡ true
+unfolding claim.rounds claim.visits courses.run courses.call migration.isWellFormed fetched placeOf tally bits.ones
+    meetsEmpty meetsKey first all some dist probe wrap rule settled absorbed insertStep
+six-moved = refl
+
+same-labels : (y : ℕ) → In y four ↔ In y inSix
+unfolding allIn listed
+same-labels y = (all-in four inSix tt y, all-in inSix four tt y)
+
 pub closes-alike : ClosesAlike
 closes-alike =
     let (sheet, three, cheap, dear, two, alone) = opens in
@@ -184,4 +247,7 @@ closes-alike =
           (put-in-closed .1) (put-in-closed .2);
       take-out =
           both-one-table Kiosk Gateway 2 2 1 plain four [] [] two alone together inSequence take-out-keys (take-out-closed .0) (take-out-closed .1);
+      moves =
+          moves.both-one-table Kiosk Gateway 2 3 plain four inSix (emptyCells 7) (emptyCells 7) refl (moves-opened .0) (moves-opened .1)
+          (λ y _. same-labels y) (claim.rounds 2 12) (claim.rounds 3 9) (sheet-moved .2) six-moved;
     }

@@ -12,11 +12,36 @@ use Rattle.tables.proofs.Theorem.{theorem}
 use Rattle.rounds.proofs.Theorem.{sending, closing, round}
 use Rattle.till.proofs.Theorem.{till-promise}
 use Rattle.history.proofs.Theorem.{history, any-lists, keeps-table, refused, fixed, one-table, two-turns}
-use Rattle.models.specs.Promises.{EachPromise}
+use Rattle.migration.proofs.Formed as formed
+use Rattle.migration.proofs.Keeping as keeping
+use Rattle.migration.proofs.Protocol as protocol
+use Rattle.migration.proofs.Theorem as courses
+use Rattle.migration.proofs.Turning as turning
+use Rattle.models.specs.Promises.{MovePromises, EachPromise}
 
 limits : (d : Device) → Limited (modelOf d) (mostCellsOf d) (mostWorkersOf d)
 limits Gateway = gateway-promise
 limits Kiosk = kiosk-promise
+
+moves : (d : Device) → MovePromises (modelOf d)
+moves d = record {
+  opens = protocol.opens (modelOf d);
+  opens-decided = protocol.each-opens d;
+  orders = protocol.orders (modelOf d);
+  turns = turning.turns (modelOf d);
+  closes = protocol.closes (modelOf d);
+  tested = formed.well-formed-says (modelOf d);
+  hash-untested = protocol.hash-untested (modelOf d);
+  keeps = keeping.keeps (modelOf d) (proper d);
+  never-spoilt = keeping.each-never-spoilt d;
+  places = keeping.places (modelOf d);
+  kinds = protocol.kinds (modelOf d);
+  calls = courses.courses (modelOf d) (proper d);
+  ends = courses.each-ends d;
+  refused = courses.refused (modelOf d);
+  one-table = courses.one-table (modelOf d) (modelOf d) (proper d) (proper d);
+  two-turns = courses.two-turns (modelOf d);
+}
 
 pub each-promise : EachPromise
 each-promise d = record {
@@ -46,4 +71,5 @@ each-promise d = record {
   fixed = fixed (modelOf d) (modelOf d) (proper d) (proper d);
   one-table = one-table (modelOf d) (modelOf d) (proper d) (proper d);
   two-turns = two-turns (modelOf d);
+  moves = moves d;
 }

@@ -34,9 +34,16 @@ use Rattle.rounds.proofs.Theorem.{sending, closing}
 use Rattle.history.specs.History.{Call, order, turn, close, History, Lent, afterOrder, afterTurn, afterClose, call, run, runLent, opening, after, afterLent}
 use Rattle.history.proofs.Keeping.{call-keeps}
 use Rattle.history.proofs.Theorem.{fixed, one-table}
+use Rattle.migration.specs.Calls as migration
+use Rattle.migration.specs.Promise as promise
+use Rattle.migration.specs.declared.Migration.{Migration}
+use Rattle.migration.proofs.Limits as limits
+use Rattle.migration.proofs.Protocol as protocol
+use Rattle.migration.proofs.Theorem as courses
+use Rattle.migration.proofs.Turning as turning
 use Rattle.numbered.specs.Numbers.{turnAnswer, replyAnswer}
 use Rattle.numbered.specs.Lists.{answerOf, answersOf}
-use Rattle.models.specs.Within.{Few, Crews, Outside, SameTables, SameCalls, SameTills, SameRounds, Inside}
+use Rattle.models.specs.Within.{Few, Crews, Outside, SameTables, SameCalls, SameTills, SameRounds, SameMoves, Inside}
 
 -- ---- records
 formed : (p : Phase) → WellFormed kiosk p ↔ (WellFormed gateway p × (p .length ≤ 256) × (p .crew ≤ 4))
@@ -89,6 +96,25 @@ order-spoilt p os i w v bad =
 till-crew : (text : List ℕ) (m places : ℕ) → (Crews m → ⊥) → countNumber (tillCall kiosk text m places) ≡ 2
 till-crew text m places many = answers kiosk text m places .decides .0 .1 (tt, λ h. many (crews-says m h))
 
+-- migrations
+move-size : (m : ℕ) (ab : Hash) (old new : List ℕ) → (Few (length old) × Few (length new) → ⊥) → replyNumber (migration.openReply kiosk m ab old new) ≡ 1
+move-size m ab old new many =
+    let o = protocol.opens kiosk m ab old new in
+    sym (ap replyNumber (o .reply)) ∙ o .answers (proper Kiosk) .0 .1 (tt, λ (h, g). many (few-says (length old) h, few-says (length new) g))
+
+move-crew : (m : ℕ) (ab : Hash) (old new : List ℕ) → Few (length old) → Few (length new) → (Crews m → ⊥)
+    → replyNumber (migration.openReply kiosk m ab old new) ≡ 2
+move-crew m ab old new few into many =
+    let o = protocol.opens kiosk m ab old new in
+    let sizes : Size kiosk (length old) × Size kiosk (length new) = (says-few (length old) few, says-few (length new) into) in
+    sym (ap replyNumber (o .reply)) ∙ o .answers (proper Kiosk) .1 .0 .1 ((tt, sizes), λ h. many (crews-says m h))
+
+move-formed : (p : Migration) → promise.WellFormed kiosk p ↔ (promise.WellFormed gateway p × (p .source ≤ 256) × (p .length ≤ 256) × (p .crew ≤ 4))
+move-formed p = (
+  λ h. (limits.formed-within Kiosk p .0 h .0, h .from .1, h .to .1, h .crew .1),
+  λ (h, from, into, crew). limits.formed-within Kiosk p .1 (h, (h .from .0, from), (h .to .0, into), (h .crew .0, crew)),
+)
+
 pub outside : Outside
 outside = record {
   open-size = open-size;
@@ -122,6 +148,22 @@ outside = record {
   close = λ p bad.
       let r = closes kiosk p in
       let e : replyNumber (closeCall kiosk p .reply) ≡ 13 = r .answers .0 .1 (tt, bad) in
+      (e, r .refused (nonzero e (omega arith)));
+  move-size = move-size;
+  move-crew = move-crew;
+  move-formed = move-formed;
+  move-order = λ p w bad.
+      let r = protocol.orders kiosk p w in
+      let e : replyNumber (migration.orderCall kiosk p w .reply) ≡ 13 = r .answers .0 .1 (tt, bad) in
+      (e, r .refused (nonzero e (omega arith)));
+  move-turn = λ p old new w bad.
+      let r = turning.turns kiosk p old new w in
+      let e : turnNumber (migration.turnCall kiosk p old new w .reply) ≡ 13 = r .answers .0 .1 (tt, bad) in
+      let (same, kept) = r .refused (nonzero e (omega arith)) in
+      (e, same, r .unchanged, kept);
+  move-close = λ p bad.
+      let r = protocol.closes kiosk p in
+      let e : replyNumber (migration.closeCall kiosk p .reply) ≡ 13 = r .answers .0 .1 (tt, bad) in
       (e, r .refused (nonzero e (omega arith)));
 }
 
@@ -165,6 +207,16 @@ calls-alike p h = record {
   turn = turn-alike Kiosk p h;
   table = table-alike Kiosk p h;
   close = close-alike Kiosk p h;
+}
+
+-- ---- migrations
+moves-alike : (p : Migration) → promise.WellFormed kiosk p → SameMoves p
+moves-alike p h = record {
+  order = limits.order-alike Kiosk p h;
+  turn = limits.turn-alike Kiosk p h;
+  kept = limits.old-alike Kiosk p h;
+  table = limits.new-alike Kiosk p h;
+  close = limits.close-alike Kiosk p h;
 }
 
 -- ---- lists of calls
@@ -270,4 +322,12 @@ inside = record {
   answers = answers-same;
   closes = one-table kiosk gateway (proper Kiosk) (proper Gateway);
   fixed = fixed kiosk gateway (proper Kiosk) (proper Gateway);
+  move-openings = λ m ab old new few into crew.
+      limits.open-alike Kiosk m ab old new (says-few (length old) few) (says-few (length new) into) (says-crews m crew);
+  moves = moves-alike;
+  move-refused = refl;
+  move-accepted = limits.accepted Kiosk;
+  move-runs = limits.runs Kiosk;
+  move-answers = limits.answers Kiosk;
+  move-closes = courses.one-table kiosk gateway (proper Kiosk) (proper Gateway);
 }

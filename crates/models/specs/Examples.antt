@@ -1,8 +1,9 @@
 -- The kiosk at its limits, computed: numbers of refusals, 0 where there is none, in one row for a row of lengths, crews or records. Beside them the gateway's.
 use mathlib.Core.Path.{_≡_}
-use mathlib.Core.Bool.{true, false}
+use mathlib.Core.Bool.{Bool, true, false}
 use mathlib.Core.List.{List, [], _∷_, map}
 use Prim.Native.Nat.{ℕ}
+use lib.ListN.{set, replicate}
 use Rattle.homes.specs.Homes.{plain, hashOf}
 use Rattle.text.specs.Bytes.{bytesOf}
 use Rattle.activities.specs.declared.Activity.the-variants.{Reading}
@@ -16,6 +17,14 @@ use Rattle.protocol.specs.Calls.{turnNumber, closeCall, orderCall, turnCall, tu
 use Rattle.tables.specs.Calls.{checkCall, countCall, listCall, listAfter, listFront}
 use Rattle.history.specs.History.{after}
 use Rattle.rounds.specs.Rounds.{openRound, closeRound}
+use Rattle.migration.specs.Calls as migration
+use Rattle.migration.specs.Calls.{turnOld, turnNew}
+use Rattle.migration.specs.Claim.{rounds}
+use Rattle.migration.specs.Courses as courses
+use Rattle.migration.specs.Tasks.{free, carrier}
+use Rattle.migration.specs.declared.Carrier.{Carrier}
+use Rattle.migration.specs.declared.Migration.{Migration}
+use Rattle.migration.specs.declared.Task.the-variants.{Fetching}
 use Rattle.till.specs.Till.{tillCall, tillAfter}
 use Rattle.examples.specs.Forms.{emptyCells, phase, allIdle, busyOne, handedBack, callsOf}
 use Rattle.examples.specs.Examples.{four, sheetItems, sheetPutsIn}
@@ -119,9 +128,110 @@ pub record KioskExamples : Type 0 where
   pub front : listFront kiosk plain four (70 ∷ 71 ∷ 72 ∷ 73 ∷ 74 ∷ []) ≡ ones (4 ∷ 3 ∷ 13 ∷ 8 ∷ [])
   pub till-list : tillAfter kiosk (bytesOf "3,1\r\n8,1\r\n13,1\r\n4,1\r\n") 2 sheetItems ≡ sheetItems
 
+-- ---- migrations (document 02: move shifts)
+-- a record, written out: n old cells and l new ones, m workers, the next old cell, shut or not, with a of 1 and b of 0; the places for workers
+abbrev pub moving : (n l m next : ℕ) → Bool → List Carrier → Migration
+moving n l m next shut cs = record { kind = 4; source = n; length = l; crew = m; next = next; shut = shut; hash = plain; carriers = cs }
+
+abbrev pub allFree : List Carrier
+allFree = replicate 16 (carrier free)
+
+-- open records with no cell handed out and all workers free: from 256 cells to 256 with 4 workers; of the gateway, with 5 workers, from 257 cells and to 257;
+-- from one cell; to one cell; with no worker
+abbrev pub moveRecords : List Migration
+moveRecords =
+    moving 256 256 4 0 false allFree
+    ∷ moving 256 256 5 0 false allFree
+    ∷ moving 257 256 4 0 false allFree
+    ∷ moving 256 257 4 0 false allFree
+    ∷ moving 1 256 4 0 false allFree
+    ∷ moving 256 1 4 0 false allFree
+    ∷ moving 256 256 0 0 false allFree
+    ∷ []
+
+-- one of them with all cells handed out
+abbrev pub handedOut : Migration → Migration
+handedOut p = moving (p .source) (p .length) (p .crew) (p .source) false allFree
+
+-- a gateway's fifth worker about to read an old cell; a kiosk's record of those lengths with its fourth worker there
+abbrev pub fifthCarries : Migration
+fifthCarries = moving 5 7 5 2 false (set allFree 4 (carrier (Fetching 1)))
+
+abbrev pub fourthCarries : Migration
+fourthCarries = moving 5 7 4 2 false (set allFree 3 (carrier (Fetching 1)))
+
+-- the sheet's labels in six cells and in seven
+abbrev pub inSix : List ℕ
+inSix = ones (0 ∷ 13 ∷ 8 ∷ 3 ∷ 4 ∷ 0 ∷ [])
+
+abbrev pub inSeven : List ℕ
+inSeven = ones (0 ∷ 8 ∷ 0 ∷ 3 ∷ 4 ∷ 0 ∷ 13 ∷ [])
+
+module _ (M : Model) where
+  -- an opening with one worker from n empty cells to 2, and from 2 to n; with m workers from 2 to 2
+  abbrev pub movesFrom : ℕ → ℕ
+  movesFrom n = replyNumber (migration.openReply M 1 plain (emptyCells n) (emptyCells 2))
+
+  abbrev pub movesTo : ℕ → ℕ
+  movesTo n = replyNumber (migration.openReply M 1 plain (emptyCells 2) (emptyCells n))
+
+  abbrev pub movesWith : ℕ → ℕ
+  movesWith m = replyNumber (migration.openReply M m plain (emptyCells 2) (emptyCells 2))
+
+  -- an opening with m workers by a from 256 empty cells to n, one of which is taken
+  abbrev pub movesInAll : (m a n : ℕ) → ℕ
+  movesInAll m a n = replyNumber (migration.openReply M m (hashOf a 0) (emptyCells 256) (set (emptyCells n) 0 (one 3)))
+
+  -- an order, a turn on tables of its lengths and, with all cells handed out, a close, to a record
+  abbrev pub moveOrdered : Migration → ℕ
+  moveOrdered p = replyNumber (migration.orderCall M p 0 .reply)
+
+  abbrev pub moveTurned : Migration → ℕ
+  moveTurned p = turnNumber (migration.turnCall M p (emptyCells (p .source)) (emptyCells (p .length)) 0 .reply)
+
+  abbrev pub moveClosed : Migration → ℕ
+  moveClosed p = replyNumber (migration.closeCall M (handedOut p) .reply)
+
+pub record KioskMoves : Type 0 where
+  -- 1 and 257 cells get 1, in the old table and in the new one; 2 and 256 open
+  pub from : map (movesFrom kiosk) lengths ≡ 1 ∷ 1 ∷ 0 ∷ 0 ∷ 1 ∷ 1 ∷ []
+  pub to : map (movesTo kiosk) lengths ≡ 1 ∷ 1 ∷ 0 ∷ 0 ∷ 1 ∷ 1 ∷ []
+  pub gateway-from : map (movesFrom gateway) lengths ≡ 1 ∷ 1 ∷ 0 ∷ 0 ∷ 0 ∷ 0 ∷ []
+  pub gateway-to : map (movesTo gateway) lengths ≡ 1 ∷ 1 ∷ 0 ∷ 0 ∷ 0 ∷ 0 ∷ []
+  -- 0 and 5 workers get 2; 1 and 4 open
+  pub workers : map (movesWith kiosk) crews ≡ 2 ∷ 0 ∷ 0 ∷ 2 ∷ 2 ∷ 2 ∷ []
+  pub gateway-workers : map (movesWith gateway) crews ≡ 2 ∷ 0 ∷ 0 ∷ 0 ∷ 0 ∷ 2 ∷ []
+  -- what an opening hands back, accepted and refused
+  pub opened : migration.openCall kiosk 4 plain (emptyCells 256) (emptyCells 2) .migration ≡ moving 256 2 4 0 false allFree
+  pub refused : migration.openCall kiosk 5 plain (emptyCells 256) (emptyCells 2) .migration ≡ moving 2 2 1 0 true allFree
+  -- first to apply wins: 1 and 2 by the kiosk's limits come before 21 and 23
+  pub size-first : movesInAll kiosk 5 2 257 ≡ 1
+  pub crew-next : movesInAll kiosk 5 2 256 ≡ 2
+  pub even-next : movesInAll kiosk 4 2 256 ≡ 21
+  pub unfit-next : movesInAll kiosk 4 1 256 ≡ 23
+  -- records of the gateway with 5 workers, or with 257 cells in either table, are spoilt to the kiosk, whose own are spoilt to neither
+  pub orders : map (moveOrdered kiosk) moveRecords ≡ 0 ∷ 13 ∷ 13 ∷ 13 ∷ 13 ∷ 13 ∷ 13 ∷ []
+  pub turns : map (moveTurned kiosk) moveRecords ≡ 0 ∷ 13 ∷ 13 ∷ 13 ∷ 13 ∷ 13 ∷ 13 ∷ []
+  pub closes : map (moveClosed kiosk) moveRecords ≡ 0 ∷ 13 ∷ 13 ∷ 13 ∷ 13 ∷ 13 ∷ 13 ∷ []
+  pub gateway-orders : map (moveOrdered gateway) moveRecords ≡ 0 ∷ 0 ∷ 0 ∷ 0 ∷ 13 ∷ 13 ∷ 13 ∷ []
+  pub gateway-turns : map (moveTurned gateway) moveRecords ≡ 0 ∷ 0 ∷ 0 ∷ 0 ∷ 13 ∷ 13 ∷ 13 ∷ []
+  pub gateway-closes : map (moveClosed gateway) moveRecords ≡ 0 ∷ 0 ∷ 0 ∷ 0 ∷ 13 ∷ 13 ∷ 13 ∷ []
+  -- a turn of the gateway's fifth worker is refused and changes nothing; one of the fourth is the gateway's
+  pub fifth : turnNumber (migration.turnCall kiosk fifthCarries four (emptyCells 7) 4 .reply) ≡ 13
+  pub fifth-record : migration.turnCall kiosk fifthCarries four (emptyCells 7) 4 .migration ≡ fifthCarries
+  pub fifth-kept : turnOld kiosk fifthCarries four (emptyCells 7) 4 ≡ four
+  pub fifth-table : turnNew kiosk fifthCarries four (emptyCells 7) 4 ≡ emptyCells 7
+  pub fourth : migration.turnCall kiosk fourthCarries four (emptyCells 7) 3 ≡ migration.turnCall gateway fourthCarries four (emptyCells 7) 3
+  -- the sheet's table moved by the kiosk from five cells to seven
+  pub moved : courses.after kiosk 2 plain four (emptyCells 7) (rounds 2 12) .new ≡ inSeven
+  pub kept : courses.after kiosk 2 plain four (emptyCells 7) (rounds 2 12) .old ≡ four
+  pub shut : courses.after kiosk 2 plain four (emptyCells 7) (rounds 2 12) .closed ≡ true
+
 -- ---- a table that both may open closes alike in both, by other turns, other workers and other lists: put in, with prices, and taken out. By the promise
 pub record ClosesAlike : Type 0 where
   pub put-in : after kiosk 1 2 plain (emptyCells 5) sheetItems (callsOf sheetPutsIn) .table
       ≡ after gateway 1 3 plain (emptyCells 5) threeItems threePutIn .table
   pub prices : after kiosk 1 2 plain (emptyCells 5) priceItems twoPrice .table ≡ after gateway 1 3 plain (emptyCells 5) morePriceItems threePrice .table
   pub take-out : after kiosk 2 2 plain four [] together .table ≡ after gateway 2 1 plain four [] inSequence .table
+  -- moved from tables of two lengths into seven cells
+  pub moves : courses.after kiosk 2 plain four (emptyCells 7) (rounds 2 12) .new ≡ courses.after gateway 3 plain inSix (emptyCells 7) (rounds 3 9) .new

@@ -17,6 +17,13 @@ use Rattle.protocol.specs.WellFormed.{WellFormed}
 use Rattle.tables.specs.Calls.{checkCall, countCall, listCall, listAfter, listFront}
 use Rattle.history.specs.History.{Call, Lent, opening, after, afterLent}
 use Rattle.history.specs.Promise.{OneTable, Fixed}
+use Rattle.migration.specs.Calls as migration
+use Rattle.migration.specs.Calls.{refusedMigration, turnOld, turnNew}
+use Rattle.migration.specs.Claim as claim
+use Rattle.migration.specs.Courses as courses
+use Rattle.migration.specs.Lists as lists
+use Rattle.migration.specs.Promise as promise
+use Rattle.migration.specs.declared.Migration.{Migration}
 use Rattle.numbered.specs.Lists.{answersOf}
 use Rattle.rounds.specs.Rounds as rounds
 use Rattle.rounds.specs.Rounds.{Ack, openRound, sentTable, closeRound, tableAfter, answersAfter}
@@ -54,6 +61,21 @@ pub record Outside : Type 0 where
   pub turn : (p : Phase) (t : List ℕ) (w : ℕ) → (WellFormed kiosk p → ⊥)
       → (turnNumber (turnCall kiosk p t w .reply) ≡ 13) × (turnCall kiosk p t w .phase ≡ p) × (turnTable kiosk p t w ≡ t)
   pub close : (p : Phase) → (WellFormed kiosk p → ⊥) → (replyNumber (closeCall kiosk p .reply) ≡ 13) × (closeCall kiosk p .phase ≡ p)
+  -- migrations (document 02: move shifts), which are held against the limits with both tables
+  pub move-size : (m : ℕ) (ab : Hash) (old new : List ℕ) → (Few (length old) × Few (length new) → ⊥) → replyNumber (migration.openReply kiosk m ab old new) ≡ 1
+  pub move-crew : (m : ℕ) (ab : Hash) (old new : List ℕ) → Few (length old) → Few (length new) → (Crews m → ⊥)
+      → replyNumber (migration.openReply kiosk m ab old new) ≡ 2
+  pub move-formed : (p : Migration)
+      → promise.WellFormed kiosk p ↔ (promise.WellFormed gateway p × (p .source ≤ 256) × (p .length ≤ 256) × (p .crew ≤ 4))
+  pub move-order : (p : Migration) (w : ℕ) → (promise.WellFormed kiosk p → ⊥)
+      → (replyNumber (migration.orderCall kiosk p w .reply) ≡ 13) × (migration.orderCall kiosk p w .migration ≡ p)
+  pub move-turn : (p : Migration) (old new : List ℕ) (w : ℕ) → (promise.WellFormed kiosk p → ⊥)
+      → (turnNumber (migration.turnCall kiosk p old new w .reply) ≡ 13)
+      × (migration.turnCall kiosk p old new w .migration ≡ p)
+      × (turnOld kiosk p old new w ≡ old)
+      × (turnNew kiosk p old new w ≡ new)
+  pub move-close : (p : Migration) → (promise.WellFormed kiosk p → ⊥)
+      → (replyNumber (migration.closeCall kiosk p .reply) ≡ 13) × (migration.closeCall kiosk p .migration ≡ p)
 
 -- ---- inside them its calls are the gateway's
 -- on a table
@@ -88,6 +110,14 @@ pub record SameRounds (m : ℕ) (ab : Hash) (t : List ℕ) : Type 0 where
   pub answers : (rs : List Ack) (answers out : List ℕ) → answersAfter kiosk m ab t rs answers out ≡ answersAfter gateway m ab t rs answers out
   pub list : (rs : List Ack) (answers out : List ℕ) → rounds.listAfter kiosk m ab t rs answers out ≡ rounds.listAfter gateway m ab t rs answers out
 
+-- on a record of a migration
+pub record SameMoves (p : Migration) : Type 0 where
+  pub order : (w : ℕ) → migration.orderCall kiosk p w ≡ migration.orderCall gateway p w
+  pub turn : (old new : List ℕ) (w : ℕ) → migration.turnCall kiosk p old new w ≡ migration.turnCall gateway p old new w
+  pub kept : (old new : List ℕ) (w : ℕ) → turnOld kiosk p old new w ≡ turnOld gateway p old new w
+  pub table : (old new : List ℕ) (w : ℕ) → turnNew kiosk p old new w ≡ turnNew gateway p old new w
+  pub close : migration.closeCall kiosk p ≡ migration.closeCall gateway p
+
 pub record Inside : Type 0 where
   pub openings : (k m : ℕ) (ab : Hash) (t : List ℕ) (os : List Order) → Few (length t) → Crews m → openCall kiosk k m ab t os ≡ openCall gateway k m ab t os
   pub tables : (ab : Hash) (t : List ℕ) → Few (length t) → SameTables ab t
@@ -107,3 +137,16 @@ pub record Inside : Type 0 where
   -- a table that both may open closes alike in both, by whatever other calls with the same orders, and is fixed by what is left
   pub closes : OneTable kiosk gateway
   pub fixed : Fixed kiosk gateway
+  -- the same for migrations: openings, records, and from an accepted opening on every list of calls
+  pub move-openings : (m : ℕ) (ab : Hash) (old new : List ℕ) → Few (length old) → Few (length new) → Crews m
+      → migration.openCall kiosk m ab old new ≡ migration.openCall gateway m ab old new
+  pub moves : (p : Migration) → promise.WellFormed kiosk p → SameMoves p
+  pub move-refused : refusedMigration kiosk ≡ refusedMigration gateway
+  pub move-accepted : (m : ℕ) (ab : Hash) (old new : List ℕ) → migration.openReply kiosk m ab old new ≡ Accepted
+      → migration.openReply gateway m ab old new ≡ Accepted
+  pub move-runs : (m : ℕ) (ab : Hash) (old new : List ℕ) → migration.openReply kiosk m ab old new ≡ Accepted → (cs : List courses.Call)
+      → courses.after kiosk m ab old new cs ≡ courses.after gateway m ab old new cs
+  pub move-answers : (m : ℕ) (ab : Hash) (old new : List ℕ) → migration.openReply kiosk m ab old new ≡ Accepted → (cs : List courses.Call)
+      → lists.answersOf kiosk cs (courses.opening kiosk m ab old new) ≡ lists.answersOf gateway cs (courses.opening gateway m ab old new)
+  -- into tables of one length the same labels at the same prices are moved alike in both, by whatever calls
+  pub move-closes : claim.OneTable kiosk gateway

@@ -1,13 +1,13 @@
 -- The calls' sequences of refusals, each test with what it says.
 use mathlib.Core.Path.{_≡_, refl}
 use mathlib.Core.Logic.{_≢_, ⊎-elim}
-use mathlib.Core.Bool.{true, false, not}
+use mathlib.Core.Bool.{not}
 use mathlib.Core.List.{List, [], _∷_, _++_}
 use Prim.Native.Nat.{ℕ, _≤_, _<_}
 use native.Mathlib.Omega.{arith}
-use lib.Dec.{leb, ltb, eqb}
+use lib.Dec.{ltb, eqb}
 use lib.ListN.{length, getD}
-use borrow.Author.Tests.{leb-true, leb-false, ltb-true, ltb-false, not-true, not-false}
+use borrow.Author.Tests.{ltb-true, ltb-false, not-true, not-false}
 use Rattle.ring.proofs.Tests.{not-both, equal-says, within-says, by-test}
 use Rattle.homes.specs.declared.Hash.{Hash}
 use Rattle.prices.specs.Contents.{priceOk}
@@ -37,7 +37,7 @@ use Rattle.protocol.specs.IsWellFormed.{isWellFormed}
 use Rattle.protocol.specs.Lines.{Priced, Mispriced}
 use Rattle.protocol.proofs.Lines.{apart, blank-first, price-first, worker-first, fills-says}
 use Rattle.protocol.proofs.Pricing.{price-says, wrong-says}
-use Rattle.protocol.proofs.Chain.{Step, barring, wanting, by-reply}
+use Rattle.protocol.proofs.Chain.{Step, barring, wanting, testing, reaching, by-reply}
 use Rattle.protocol.proofs.WellFormed.{all-idle-says, some-busy, well-formed-says}
 
 -- ---- open
@@ -108,31 +108,10 @@ module _ (M : Model) (k m : ℕ) (ab : Hash) (t : List ℕ) where
 
 module _ (M : Model) (p : Phase) where
   abbrev phaseSteps : List Step
-  phaseSteps =
-      wanting (isWellFormed M p) (well-formed-says M p) Spoilt
-      ∷ record {
-        when = p .shut;
-        why = Shut;
-        passes = p .shut ≡ false;
-        applies = p .shut ≡ true;
-        if-true = λ e. e;
-        if-false = λ e. e;
-        apart = λ e f. not-both (p .shut) f e;
-      }
-      ∷ []
+  phaseSteps = wanting (isWellFormed M p) (well-formed-says M p) Spoilt ∷ testing (p .shut) Shut ∷ []
 
   abbrev numberSteps : ℕ → List Step
-  numberSteps w =
-      record {
-        when = leb (p .crew) w;
-        why = NoWorker;
-        passes = w < p .crew;
-        applies = p .crew ≤ w;
-        if-true = leb-true (p .crew) w;
-        if-false = leb-false (p .crew) w;
-        apart = λ l h. omega arith;
-      }
-      ∷ []
+  numberSteps w = reaching (p .crew) w NoWorker ∷ []
 
   -- ---- order
   abbrev workerSteps : (w v : ℕ) → List Step

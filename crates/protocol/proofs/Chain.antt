@@ -1,16 +1,16 @@
 -- A sequence of refusals decides as its cases say: each test is known by what it says where it holds and where it does not, and the numbers are distinct.
-use mathlib.Core.Path.{_≡_, refl, _∙_}
+use mathlib.Core.Path.{_≡_, refl, sym, _∙_}
 use mathlib.Core.Logic.{_≢_, _↔_}
 use mathlib.Core.Bool.{Bool, true, false, not, cond}
 use mathlib.Core.List.{List, [], _∷_}
-use Prim.Native.Nat.{ℕ}
+use Prim.Native.Nat.{ℕ, _≤_, _<_}
 use native.Mathlib.Omega.{arith}
-use lib.Dec.{eqb}
-use borrow.Author.Tests.{not-true, not-false, eq-eqb}
+use lib.Dec.{leb, eqb}
+use borrow.Author.Tests.{not-true, not-false, eq-eqb, leb-true, leb-false}
 use Rattle.ring.proofs.Tests.{tested, by-test, not-both}
 use Rattle.state.specs.Refusals.{numberOf, replyNumber, Bar, firstOf}
 use Rattle.state.specs.declared.Refusal.{Refusal}
-use Rattle.state.specs.declared.Refusal.the-variants.{Size, Crew, Kind, Unsound, OtherTable, NoWorker, Blank, Busy, Full, Working, Shut, ShortList, Spoilt, WrongPrice, NoLine, LongList, Gap, Disorder, BadRecord, BadField, Even, Absent}
+use Rattle.state.specs.declared.Refusal.the-variants.{Size, Crew, Kind, Unsound, OtherTable, NoWorker, Blank, Busy, Full, Working, Shut, ShortList, Spoilt, WrongPrice, NoLine, LongList, Gap, Disorder, BadRecord, BadField, Even, Absent, Unfit}
 use Rattle.state.specs.declared.Reply.{Reply}
 use Rattle.state.specs.declared.Reply.the-variants.{Accepted, Refused}
 use Rattle.protocol.specs.Cases.{Case, DecidesFrom, Decides}
@@ -47,6 +47,22 @@ wanting {P} b says r = record {
   if-true = λ e h. not-both b (says .1 h) (not-true b e);
   if-false = λ e. says .0 (not-false b e);
   apart = λ h z. z h;
+}
+
+-- given where a test holds, and by its value
+abbrev pub testing : (b : Bool) → Refusal → Step
+testing b r = record { when = b; why = r; passes = b ≡ false; applies = b ≡ true; if-true = λ e. e; if-false = λ e. e; apart = λ e f. not-both b f e }
+
+-- given where a is at most b
+abbrev pub reaching : (a b : ℕ) → Refusal → Step
+reaching a b r = record {
+  when = leb a b;
+  why = r;
+  passes = b < a;
+  applies = a ≤ b;
+  if-true = leb-true a b;
+  if-false = leb-false a b;
+  apart = λ l h. omega arith;
 }
 
 -- ---- a chain of them
@@ -122,6 +138,14 @@ decides-from (s ∷ c) B r d is known = ((to, from), decides-from c (B × s .pas
 pub decides : (c : List Step) → distinct c ≡ true → (r : ℕ) → r ≡ replyNumber (firstOf (barsOf c)) → Decides r (casesOf c)
 decides c d r is = decides-from c (Unit {0}) r d (λ _. is) (λ _. tt)
 
+-- the last case, in other words for where those before it are passed by
+pub decides-last : (c d : Case) (B : Type 0) (r : ℕ) → c .number ≡ d .number → (B → c .passes ↔ d .passes) → (B → c .applies ↔ d .applies)
+    → DecidesFrom B r (c ∷ []) → DecidesFrom B r (d ∷ [])
+decides-last c d B r same passes applies ((to, from), (none, all)) = (
+  (λ e. let (b, a) = to (e ∙ sym same) in (b, applies b .0 a), λ (b, a). from (b, applies b .1 a) ∙ same),
+  (λ e. let (b, p) = none e in (b, passes b .0 p), λ (b, p). all (b, passes b .1 p)),
+)
+
 -- ---- any call is accepted or refused
 pub by-reply {ℓ} : {C : Type ℓ} (r : Reply) → (r ≡ Accepted → C) → ((q : Refusal) → r ≡ Refused q → C) → C
 by-reply Accepted f g = f refl
@@ -151,6 +175,7 @@ refusal-number BadRecord e = omega arith
 refusal-number BadField e = omega arith
 refusal-number Even e = omega arith
 refusal-number Absent e = omega arith
+refusal-number Unfit e = omega arith
 
 pub none-accepted : (r : Reply) → replyNumber r ≡ 0 → r ≡ Accepted
 none-accepted Accepted e = refl

@@ -1,5 +1,5 @@
 -- What an opening hands back: a phase state with all workers idle.
-use mathlib.Core.Path.{_≡_, refl, ap}
+use mathlib.Core.Path.{refl, ap}
 use mathlib.Core.Bool.{Bool}
 use Prim.Native.Nat.{ℕ}
 use lib.ListN.{length-replicate}

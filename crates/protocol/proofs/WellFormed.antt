@@ -19,7 +19,7 @@ use Rattle.activities.specs.declared.Activity.{Activity}
 use Rattle.activities.specs.declared.Activity.the-variants.{Idle}
 use Rattle.activities.specs.declared.Worker.{Worker}
 use Rattle.activities.proofs.Activities.{idle-says, suits-says}
-use Rattle.state.specs.Model.{Model, sizeOk, crewOk}
+use Rattle.state.specs.Model.{Model, sizeOk}
 use Rattle.state.specs.declared.Phase.{Phase}
 use Rattle.protocol.specs.Bars.{doing, allIdle}
 use Rattle.protocol.specs.IsWellFormed.{numbersOk, workersOk, isWellFormed}

@@ -1,5 +1,4 @@
--- Sequences of cases with some left out that are always passed by, or the last said in other words.
-use mathlib.Core.Path.{_≡_, _∙_, sym}
+-- Sequences of cases with some left out that are always passed by.
 use mathlib.Core.Logic.{_↔_}
 use mathlib.Core.List.{List, [], _∷_, _++_}
 use Prim.Native.Nat.{ℕ}
@@ -23,11 +22,3 @@ pub decides-without : (ds cs : List Case) (B : Type 0) (r : ℕ) → (B → Pass
 decides-without [] cs B r passed h = h
 decides-without (d ∷ ds) cs B r passed (_, rest) =
     decides-without ds cs B r (λ b. passed b .1) (decides-behind (ds ++ cs) (B × d .passes) B r (λ (b, _). b, λ b. (b, passed b .0)) rest)
-
--- the last case, in other words for where those before it are passed by
-pub decides-last : (c d : Case) (B : Type 0) (r : ℕ) → c .number ≡ d .number → (B → c .passes ↔ d .passes) → (B → c .applies ↔ d .applies)
-    → DecidesFrom B r (c ∷ []) → DecidesFrom B r (d ∷ [])
-decides-last c d B r same passes applies ((to, from), (none, all)) = (
-  (λ e. let (b, a) = to (e ∙ sym same) in (b, applies b .0 a), λ (b, a). from (b, applies b .1 a) ∙ same),
-  (λ e. let (b, p) = none e in (b, passes b .0 p), λ (b, p). all (b, passes b .1 p)),
-)

@@ -37,7 +37,7 @@ use Rattle.protocol.specs.Cases.{Case, case, Decides}
 use Rattle.protocol.specs.Promise.{Soundness, GappedIn, DisorderedIn}
 use Rattle.protocol.specs.WellFormed as formed
 use Rattle.protocol.proofs.Calls.{sizeSteps, evenSteps, soundSteps}
-use Rattle.protocol.proofs.Chain.{Step, wanting, casesOf, decides, none-accepted}
+use Rattle.protocol.proofs.Chain.{Step, wanting, casesOf, decides, decides-last, none-accepted}
 use Rattle.protocol.proofs.Soundness.{sounds}
 use Rattle.protocol.proofs.Theorem.{opens}
 use Rattle.tables.specs.Calls as tables
@@ -47,7 +47,6 @@ use Rattle.history.proofs.Theorem.{history}
 use Rattle.rounds.specs.Promise.{Acked, AsSaid, roundCases, ClosingPromise}
 use Rattle.rounds.specs.Rounds.{Ack, noAck, ackReply, ackNumbers, acked, ordersOut, isShort, roundBars, leftTable, closeRound, tableAfter, answersAfter, listAfter}
 use Rattle.rounds.proofs.Acks.{ack, acked-front, own-answer, acked-says, orders-keys}
-use Rattle.rounds.proofs.Cases.{decides-last}
 use Rattle.rounds.proofs.Laid.{laid-long, laid-sound, laid-has}
 use Rattle.rounds.proofs.Sizes.{labels-fewer}
 use Rattle.rounds.proofs.Sounds.{some, counts, keys-few, cell-right, entry-least}

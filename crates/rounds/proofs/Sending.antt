@@ -19,6 +19,7 @@ use Rattle.prices.proofs.Least.{append-least, same-members, itself, cover-least
 use Rattle.prices.proofs.Theorem.{theorem as layouts}
 use Rattle.orders.specs.Orders.{blank, orderKeys}
 use Rattle.orders.specs.declared.Order.{Order}
+use Rattle.rule.proofs.Crew.{replicate-at}
 use Rattle.state.specs.Model.{Model, Proper}
 use Rattle.state.specs.Open.{openReply}
 use Rattle.state.specs.Refusals.{replyNumber}
@@ -48,19 +49,14 @@ no-entry : (n y : ℕ) → In y (empty n) → y ≡ 0
 no-entry zero y i = absurd i
 no-entry (suc n) y i = ⊎-elim (λ e. e) (no-entry n y) i
 
-empty-cell : (n j : ℕ) → getD (empty n) j 0 ≡ 0
-empty-cell zero j = refl
-empty-cell (suc n) zero = refl
-empty-cell (suc n) (suc j) = empty-cell n j
-
 empty-sound : (M : Model) (ab : Hash) (n : ℕ) → 0 < n → Soundness M ab (empty n)
 empty-sound M ab n some =
     record {
       intact = record {
-        empty = record { cell = 0; inside = omega (arith, length-replicate {A = ℕ} n 0); is = empty-cell n 0 };
-        cells = λ j _ nz. absurd (nz (empty-cell n j));
+        empty = record { cell = 0; inside = omega (arith, length-replicate {A = ℕ} n 0); is = replicate-at 0 n 0 };
+        cells = λ j _ nz. absurd (nz (replicate-at 0 n j));
       };
-      ordered = λ j _ _ _ nz _. absurd (nz (label-at label refl (empty n) j ∙ ap label (empty-cell n j)));
+      ordered = λ j _ _ _ nz _. absurd (nz (label-at label refl (empty n) j ∙ ap label (replicate-at 0 n j)));
     }
 
 -- ---- the refusals
@@ -97,12 +93,9 @@ entries-labels m (o ∷ os) good =
     (entries-labels m os (λ i l. good (suc i) (omega arith)))
 
 entries-right : (m : ℕ) (os : List Order) → ((i : ℕ) → i < length os → Good m (getD os i blank)) → (x : ℕ) → In x (sentEntries os) → T (priceOk (price x))
-entries-right m [] good x i = absurd i
-entries-right m (o ∷ os) good x (inl e) =
-    let h = good 0 (omega arith) in
-    let is : price x ≡ o .price = ap price e ∙ contents .made (o .key) (o .price) (omega (arith, h .price .1)) .1 in
-    rw is (contents .prices (o .price) .1 (h .price))
-entries-right m (o ∷ os) good x (inr i) = entries-right m os (λ i l. good (suc i) (omega arith)) x i
+entries-right m os good x i =
+    let g = sent-lines m os good x .0 i in
+    rw (g .costs) (contents .prices (getD os (g .line) blank .price) .1 (good (g .line) (g .inside) .price))
 
 -- ---- a refused opening, and an accepted one
 module _ (M : Model) (proper : Proper M) (m : ℕ) (ab : Hash) (t : List ℕ) (os : List Order) where

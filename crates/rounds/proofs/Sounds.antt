@@ -15,9 +15,9 @@ use Rattle.prices.proofs.Contents.{contents}
 use Rattle.prices.proofs.Labels.{in-labels}
 use Rattle.prices.proofs.Theorem.{own-least}
 use Rattle.words.specs.Words.{countOf}
-use Rattle.words.proofs.Theorem.{theorem as listing}
 use Rattle.state.specs.Model.{Model, Proper}
 use Rattle.protocol.specs.Promise.{Soundness}
+use Rattle.tables.proofs.Theorem.{counts-keys}
 use Rattle.protocol.proofs.Soundness.{sounds}
 
 module _ (M : Model) (proper : Proper M) (ab : Hash) (t : List ℕ) (sound : Soundness M ab t) where
@@ -29,7 +29,7 @@ module _ (M : Model) (proper : Proper M) (ab : Hash) (t : List ℕ) (sound : Sou
 
   -- as many ones as keys, and fewer than cells
   pub counts : countOf t ≡ size (labels label t)
-  counts = listing t .number (length t) (M .home ab (length t)) inside (sounds .words M ab t .1 sound .paths)
+  counts = counts-keys M proper ab t sound
 
   pub keys-few : size (labels label t) < length t
   keys-few =

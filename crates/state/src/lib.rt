@@ -26,7 +26,7 @@ ghost use Rattle.state.specs.Stages.{readsList, earlyBars, lateBars};
 // Why a call is refused: the words of document 01's table, in its order, then the numbers of document 02.
 // `Unsound` is a table without an empty cell or with a cell that is wrong by itself, `Gap` and `Disorder` one whose labels break the way rule.
 // `BadRecord` is a record of a till list that breaks the grammar or has not two fields, `BadField` one with a field that is no number. `Even` is an even a.
-// `Absent` is a reply of a round whose label is not in the lent table.
+// `Absent` is a reply of a round whose label is not in the lent table. `Unfit` is a new table that cannot take what the old one holds.
 pub enum Refusal {
     Size,
     Crew,
@@ -50,6 +50,7 @@ pub enum Refusal {
     BadField,
     Even,
     Absent,
+    Unfit,
 }
 
 impl Refusal {
@@ -80,6 +81,7 @@ impl Refusal {
             Refusal::BadField => 20,
             Refusal::Even => 21,
             Refusal::Absent => 22,
+            Refusal::Unfit => 23,
         }
     }
 }

@@ -28,7 +28,7 @@ use Rattle.state.specs.declared.Reply.{Reply}
 use Rattle.state.specs.declared.Reply.the-variants.{Accepted}
 use Rattle.state.proofs.Counts.{count-number, kept}
 use Rattle.protocol.specs.Cases.{Decides}
-use Rattle.protocol.specs.Promise.{GappedIn, DisorderedIn}
+use Rattle.protocol.specs.Promise.{Soundness, GappedIn, DisorderedIn}
 use Rattle.protocol.specs.WellFormed.{Size}
 use Rattle.protocol.proofs.Calls.{sizeSteps, evenSteps, soundSteps}
 use Rattle.protocol.proofs.Chain.{Step, casesOf, decides, none-accepted}
@@ -37,11 +37,16 @@ use Rattle.tables.specs.Calls.{checkCall, countCall, listBars, listCall,
 use Rattle.tables.specs.Promise.{Usable, checkCases, listCases, AtRest, AtRestPromise}
 use Rattle.tables.proofs.Answers.{list-by, refused-alike, short, full as full-list}
 
+-- a sound table has as many ones as keys
+pub counts-keys : (M : Model) → Proper M → (ab : Hash) (t : List ℕ) → Soundness M ab t → countOf t ≡ size (labels label t)
+counts-keys M proper ab t sound =
+    listing t .number (length t) (M .home ab (length t)) (λ x. proper .homes ab (length t) x (omega (arith, sound .intact .empty .inside)))
+    (sounds .words M ab t .1 sound .paths)
+
 module _ (M : Model) (proper : Proper M) (ab : Hash) (t : List ℕ) where
-  -- a table that the check accepts has as many ones as keys
+  -- so has one that the check accepts
   counts : Usable M ab t → countOf t ≡ size (labels label t)
-  counts (sized, _, sound) =
-      listing t .number (length t) (M .home ab (length t)) (λ x. proper .homes ab (length t) x (omega (arith, proper .some))) (sounds .words M ab t .1 sound .paths)
+  counts (_, _, sound) = counts-keys M proper ab t sound
 
   check-decides : Decides (replyNumber (checkCall M ab t)) (checkCases M ab t)
   check-decides = decides (sizeSteps M t ++ evenSteps ab ++ soundSteps M ab t) refl (replyNumber (checkCall M ab t)) refl

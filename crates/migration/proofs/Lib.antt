@@ -1,0 +1,16 @@
+pub mod Claims
+pub mod Counting
+pub mod Dealt
+pub mod Ending
+pub mod Examples
+pub mod Follow
+pub mod Formed
+pub mod Frames
+pub mod Keeping
+pub mod Limits
+pub mod Listed
+pub mod Passing
+pub mod Protocol
+pub mod Theorem
+pub mod Turning
+pub mod TwoTurns

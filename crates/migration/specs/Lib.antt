@@ -1,0 +1,7 @@
+pub mod Calls
+pub mod Claim
+pub mod Courses
+pub mod Examples
+pub mod Lists
+pub mod Promise
+pub mod Tasks
