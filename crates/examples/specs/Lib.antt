@@ -1,11 +1,7 @@
-pub mod Altered
 pub mod Bounds
-pub mod Corollaries
 pub mod Examples
 pub mod Forms
-pub mod Lengths
 pub mod Limits
-pub mod Meanings
 pub mod Orders
 pub mod Repairs
 pub mod Spreading

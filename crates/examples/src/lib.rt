@@ -1,1 +1,1 @@
-// Worked examples as tables, computed by one theorem, and corollaries of the promises: what they say in specs/, the proofs in proofs/, no code.
+// Worked examples as tables, computed by one theorem: what they say in specs/, the proofs in proofs/, no code.

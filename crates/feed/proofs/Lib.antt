@@ -1,5 +1,3 @@
-pub mod Corollaries
-pub mod Examples
 pub mod LineByLine
 pub mod Lines
 pub mod Parts

@@ -1,5 +1,3 @@
-pub mod Corollaries
-pub mod Examples
 pub mod Feed
 pub mod Promise
 pub mod Whole

@@ -20,8 +20,8 @@ use Rattle.text.specs.Numbers.{digits, leads, valueFrom, isNumber}
 use Rattle.lines.specs.Grammar.{commandIn, areNumbers, numbersOf, readingOf}
 use Rattle.dealing.specs.Deal.{dealTo, deal, laps}
 use Rattle.sheet.specs.Replay.{answerOf}
 use Rattle.feed.specs.Whole.{linesOf, printedFrom, outputOf}
-use Rattle.feed.specs.Examples.{Sheet, AllPrint, sheets, SheetsPromise}
+use Rattle.sheets.specs.Examples.{Sheet, AllPrint, sheets, SheetsPromise}
 
 -- all of them in one equation
 all-print : (ss : List Sheet) → map (λ (s : Sheet). outputOf (s .input)) ss ≡ map (λ (s : Sheet). s .output) ss → AllPrint ss

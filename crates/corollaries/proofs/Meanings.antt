@@ -9,13 +9,13 @@ use Rattle.prices.specs.Contents.{label, price, content}
 use Rattle.prices.specs.Priced.{Least, lesser, least}
 use Rattle.rule.specs.Events.{event, run, accepts, ordered}
 use Rattle.phases.specs.Promise.{Sold, SameOrders}
 use Rattle.examples.specs.Examples.{atPrices}
-use Rattle.examples.specs.Meanings.{Meanings}
-use Rattle.examples.proofs.Lending.{five-good, worker-earliest, blank-behind, blank-later, none-blank}
-use Rattle.examples.proofs.Lending.{four-fills, list-fills, seven-once, four-once, not-mixed, not-listed}
-use Rattle.examples.proofs.Members.{apart, leastIn, allIn, same-orders, same-keys, is-least}
-use Rattle.examples.proofs.Unsound.{disordered-intact, not-full, behind-thirteen, empty-first, not-nearest, in-order}
-use Rattle.examples.proofs.Unsound.{gapped-is, disordered-is, empty-decides, lowest-gap, lowest-disorder}
+use Rattle.corollaries.specs.Meanings.{Meanings}
+use Rattle.corollaries.proofs.Lending.{five-good, worker-earliest, blank-behind, blank-later, none-blank}
+use Rattle.corollaries.proofs.Lending.{four-fills, list-fills, seven-once, four-once, not-mixed, not-listed}
+use Rattle.corollaries.proofs.Members.{apart, leastIn, allIn, same-orders, same-keys, is-least}
+use Rattle.corollaries.proofs.Unsound.{disordered-intact, not-full, behind-thirteen, empty-first, not-nearest, in-order}
+use Rattle.corollaries.proofs.Unsound.{gapped-is, disordered-is, empty-decides, lowest-gap, lowest-disorder}
 
 three : Sold label atPrices 3 7
 three = record { content = content 3 7; member = inr (inr (inr (inr (inl refl)))); is = refl; costs = refl }

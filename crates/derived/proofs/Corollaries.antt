@@ -38,11 +38,11 @@ use Rattle.sheet.specs.Promise.{line, FirstIs, Unreadable, workersText, finishT
 use Rattle.sheet.specs.Valid.{Valid}
 use Rattle.sheet.specs.Replay.{State, blank, Answer, answerOf}
 use Rattle.sheet.proofs.Theorem.{sheet-promise}
-use Rattle.feed.specs.Corollaries.{oks, Corollaries}
+use Rattle.derived.specs.Corollaries.{oks, Corollaries}
 use Rattle.feed.specs.Feed.{begin, behind, fed}
 use Rattle.feed.specs.Promise.{Plain, AllPlain, written, stateBehind, endsIn}
 use Rattle.feed.specs.Whole.{outputOf}
 use Rattle.feed.proofs.Theorem.{feed-promise}
 
 -- ---- one line more
 state-more : (l : List ℕ) (ls : List (List ℕ)) (s : State) → stateBehind s (ls ++ l ∷ []) ≡ answerOf (stateBehind s ls) (readingOf l) .state

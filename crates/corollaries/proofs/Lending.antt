@@ -14,9 +14,9 @@ use Rattle.rule.specs.Schedules.{ones}
 use Rattle.protocol.specs.Lines.{Priced, Good, Earliest, Fills}
 use Rattle.protocol.proofs.Lines.{blank-first, fills-says}
 use Rattle.history.specs.Promise.{OfLine}
-use Rattle.examples.specs.Corollaries.{priceItems, workerBeforeBlank}
+use Rattle.corollaries.specs.Corollaries.{priceItems, workerBeforeBlank}
 use Rattle.examples.specs.Orders.{oneLine, atOnes}
-use Rattle.examples.proofs.Members.{apart}
+use Rattle.corollaries.proofs.Members.{apart}
 
 -- ---- good lines
 pub five-good : (w : ℕ) → w < 2 → Good 2 (orderWith 5 1 w)

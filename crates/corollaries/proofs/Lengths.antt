@@ -47,14 +47,14 @@ use Rattle.tables.specs.Calls.{checkCall, listCall, listAfter, listFront}
 use Rattle.tables.proofs.Theorem.{theorem as tables}
 use Rattle.history.specs.History.{turn, call, run, after}
 use Rattle.history.proofs.Theorem.{keeps-table, one-table, two-turns}
 use Rattle.examples.specs.Forms.{emptyCells, line}
-use Rattle.examples.specs.Corollaries.{turnsOf, rounds, sixPlaces}
+use Rattle.corollaries.specs.Corollaries.{turnsOf, rounds, sixPlaces}
 use Rattle.examples.specs.Orders.{oneLine}
-use Rattle.examples.specs.Lengths.{seven, oneLooks, twoLook, oneItems, onePuts, twoItems, twoPut, onePriceItems, onePrice, twoPriceItems, twoPrices}
-use Rattle.examples.specs.Lengths.{oneInserts, twoInsert, third, OtherLengths}
-use Rattle.examples.specs.Lengths.{emptied, alsoEmptied, holding, alsoHolding, replacing, looking}
+use Rattle.corollaries.specs.Lengths.{seven, oneLooks, twoLook, oneItems, onePuts, twoItems, twoPut, onePriceItems, onePrice, twoPriceItems, twoPrices}
+use Rattle.corollaries.specs.Lengths.{oneInserts, twoInsert, third, OtherLengths}
+use Rattle.corollaries.specs.Lengths.{emptied, alsoEmptied, holding, alsoHolding, replacing, looking}
 use Rattle.examples.proofs.Sound.{plain-odd, sound-says}
-use Rattle.examples.proofs.Members.{apart, allIn, all-in, leastIn, same-prices, is-least, ownLeast, own-least, same-keys, same-orders}
+use Rattle.corollaries.proofs.Members.{apart, allIn, all-in, leastIn, same-prices, is-least, ownLeast, own-least, same-keys, same-orders}
 
 -- ---- openings
 seven-opens : (openReply gateway 3 1 plain seven [] ≡ Accepted)

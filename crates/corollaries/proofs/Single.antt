@@ -45,17 +45,17 @@ use Rattle.protocol.proofs.Lines.{blank-first, price-first, worker-first, fills
 use Rattle.protocol.proofs.Soundness.{sounds}
 use Rattle.protocol.proofs.Split.{splits}
 use Rattle.protocol.proofs.Theorem.{well-formed, opens, orders, turns, closes}
 use Rattle.examples.specs.Forms.{emptyCells, worker}
 use Rattle.examples.specs.Examples.{four, atPrices, sheetItems}
 use Rattle.examples.specs.Orders.{oneLine, wrongLines}
 use Rattle.examples.specs.Repairs.{gapped, disordered}
-use Rattle.examples.specs.Corollaries.{fewWorkers, manyWorkers, altered, overwritten, overpriced, justOpened, firstLine, workerBeforeBlank}
-use Rattle.examples.specs.Corollaries.{puttingIn, repricing, meeting, emptying, lookingUp}
-use Rattle.examples.specs.Corollaries.{repriceItems, madeOnOthers, CallCorollaries}
+use Rattle.corollaries.specs.Corollaries.{fewWorkers, manyWorkers, altered, overwritten, overpriced, justOpened, firstLine, workerBeforeBlank}
+use Rattle.corollaries.specs.Corollaries.{puttingIn, repricing, meeting, emptying, lookingUp}
+use Rattle.corollaries.specs.Corollaries.{repriceItems, madeOnOthers, CallCorollaries}
 use Rattle.examples.proofs.Sound.{plain-odd, sound-says}
-use Rattle.examples.proofs.Lending.{worker-earliest, four-fills, seven-once}
-use Rattle.examples.proofs.Members.{apart}
-use Rattle.examples.proofs.Unsound.{disordered-intact, gapped-intact, gapped-is, disordered-is}
+use Rattle.corollaries.proofs.Lending.{worker-earliest, four-fills, seven-once}
+use Rattle.corollaries.proofs.Members.{apart}
+use Rattle.corollaries.proofs.Unsound.{disordered-intact, gapped-intact, gapped-is, disordered-is}
 
 -- ---- openings
 opened-number : replyNumber (openCall gateway 1 2 plain (emptyCells 5) sheetItems .reply) ≡ 0

@@ -21,9 +21,9 @@ use Rattle.state.specs.declared.Phase.{Phase}
 use Rattle.protocol.specs.Calls.{turnCall}
 use Rattle.tables.specs.Calls.{checkCall, countCall, listAfter, listFront}
 use Rattle.history.specs.History.{Call, order, turn, close, after}
 use Rattle.examples.specs.Forms.{emptyCells, phase, worker, allIdle, alone, line, handed}
-use Rattle.examples.specs.Corollaries.{rounds, sixPlaces}
+use Rattle.corollaries.specs.Corollaries.{rounds, sixPlaces}
 use Rattle.examples.specs.Orders.{oneLine}
 
 -- document 01's table of 2 cells with {7}
 abbrev pub seven : List ℕ

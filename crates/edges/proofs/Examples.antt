@@ -42,14 +42,14 @@ use Rattle.csv.specs.Reader.{isText, isInside, plainOf, insideOf, fieldOf, endO
 use Rattle.till.specs.Till.{readingOf, readBehind, frontOf, dealt, tillAfter}
 use Rattle.examples.specs.Forms.{emptyCells, callsOf}
 use Rattle.examples.specs.Examples.{four, sheetItems, sheetPutsIn}
-use Rattle.examples.specs.Corollaries.{turnsOf, rounds, together, inSequence, threeItems, threePutIn, priceItems, twoPrice, morePriceItems, threePrice}
-use Rattle.examples.proofs.Members.{allIn, all-in, leastIn, same-keys, same-orders}
+use Rattle.corollaries.specs.Corollaries.{turnsOf, rounds, together, inSequence, threeItems, threePutIn, priceItems, twoPrice, morePriceItems, threePrice}
+use Rattle.corollaries.proofs.Members.{allIn, all-in, leastIn, same-keys, same-orders}
 use Rattle.migration.specs.Calls as migration
 use Rattle.migration.specs.Claim as claim
 use Rattle.migration.specs.Courses as courses
 use Rattle.migration.specs.Tasks.{fetched}
 use Rattle.migration.proofs.Theorem as moves
-use Rattle.models.specs.Examples.{lengths, crews, read, inSix, inSeven, KioskExamples, KioskMoves, ClosesAlike}
+use Rattle.edges.specs.Examples.{lengths, crews, read, inSix, inSeven, KioskExamples, KioskMoves, ClosesAlike}
 
 -- ---- till lists
 tills-read : (map (read kiosk) crews ≡ 2 ∷ 0 ∷ 0 ∷ 2 ∷ 2 ∷ 2 ∷ [])

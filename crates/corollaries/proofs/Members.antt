@@ -17,7 +17,7 @@ use Rattle.prices.proofs.Labels.{in-labels}
 use Rattle.prices.proofs.Least.{least-is, least-one, same-label}
 use Rattle.rule.specs.Events.{Said}
 use Rattle.phases.specs.Promise.{Sold, Right, SameOrders}
-use Rattle.examples.specs.Corollaries.{sayingAt}
+use Rattle.corollaries.specs.Corollaries.{sayingAt}
 
 pub apart : (x y : ℕ) → T (not (eqb x y)) → x ≢ y
 apart x y h e = T-not (eqb x y) h (subst T (sym (eq-eqb x y e)) tt)

@@ -51,7 +51,7 @@ pub record Corollaries : Type 0 where
   -- before `cells` the table has length 0; before `open` the shift counts as shut, and every `order` answers 11
   pub no-cells : outputOf (bytesOf "open\t1\t2\t1\t0\n") ≡ bytesOf "1\trefused\t1\n"
   pub order-in-shut : outputOf (bytesOf "order\tx\n") ≡ bytesOf "1\trefused\t11\n"
-  -- a shift opens by other a and b, and its empty table is listed by them (with labels in it: `spread` and `reopened` of specs/Examples); an even a gets 21
+  -- a shift opens by other a and b, and its empty table is listed by them (with labels in it: `spread` and `reopened` of the crate sheets); an even a gets 21
   pub spread-list : outputOf (bytesOf "cells\t5\nopen\t3\t1\t3\t1\nlist\n") ≡ bytesOf "1\tok\n2\tok\n3\t0\n"
   pub even-refused : outputOf (bytesOf "cells\t5\nopen\t3\t1\t2\t0\n") ≡ bytesOf "1\tok\n2\trefused\t21\n"
   -- an unreadable line (a leading zero, above 4294967295), and `open` in an open shift, answer `bad` and end the replay

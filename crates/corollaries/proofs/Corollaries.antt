@@ -60,18 +60,18 @@ use Rattle.history.specs.History.{turn, worked, call, run, turnReplies, opening
 use Rattle.history.specs.Promise.{entriesAfter, Alike, Claim}
 use Rattle.history.proofs.Theorem.{refused, keeps-table, fixed, one-table, two-turns}
 use Rattle.history.proofs.Theorem as histories
 use Rattle.examples.specs.Forms.{emptyCells, handed, callsOf}
 use Rattle.examples.specs.Limits.{twoGroups}
 use Rattle.examples.specs.Orders.{oneLine, wrongLines}
 use Rattle.examples.specs.Repairs.{gapped, disordered, full, torn, oldImage, newImage}
 use Rattle.examples.specs.Examples.{four, atPrices, sheetItems, sheetPutsIn, looksUp, anyLine}
-use Rattle.examples.specs.Corollaries.{turnsOf, rounds, together, inSequence, oneOrdered, halfPutIn, threeItems, threePutIn}
-use Rattle.examples.specs.Corollaries.{eventsTogether, eventsInSequence, takenOut, halfTaken, withThirteen, thirteenOut, sayingAt}
-use Rattle.examples.specs.Corollaries.{priceItems, twoPrice, morePriceItems, threePrice, halfPriced, repriceItems, repriced, thePriceItems, thePrices}
-use Rattle.examples.specs.Corollaries.{fewWorkers, manyWorkers, altered, fourKeys, sixPlaces, twoInOrder, Corollaries}
+use Rattle.corollaries.specs.Corollaries.{turnsOf, rounds, together, inSequence, oneOrdered, halfPutIn, threeItems, threePutIn}
+use Rattle.corollaries.specs.Corollaries.{eventsTogether, eventsInSequence, takenOut, halfTaken, withThirteen, thirteenOut, sayingAt}
+use Rattle.corollaries.specs.Corollaries.{priceItems, twoPrice, morePriceItems, threePrice, halfPriced, repriceItems, repriced, thePriceItems, thePrices}
+use Rattle.corollaries.specs.Corollaries.{fewWorkers, manyWorkers, altered, fourKeys, sixPlaces, twoInOrder, Corollaries}
 use Rattle.examples.proofs.Sound.{plain-odd, sound-says}
-use Rattle.examples.proofs.Members.{apart, is-in, not-in, allIn, leastIn, same-prices, is-least, ownLeast, own-least, same-keys, same-orders, right-at}
-use Rattle.examples.proofs.Unsound.{disordered-intact, gapped-intact, full-damaged, gapped-is, disordered-is, behind-thirteen, in-order}
+use Rattle.corollaries.proofs.Members.{apart, is-in, not-in, allIn, leastIn, same-prices, is-least, ownLeast, own-least, same-keys, same-orders, right-at}
+use Rattle.corollaries.proofs.Unsound.{disordered-intact, gapped-intact, full-damaged, gapped-is, disordered-is, behind-thirteen, in-order}
 
 -- ---- openings
 four-opens : (openReply gateway 2 2 plain four [] ≡ Accepted) × (openReply gateway 2 1 plain four [] ≡ Accepted)

@@ -25,9 +25,9 @@ use Rattle.protocol.specs.Bars.{doing}
 use Rattle.protocol.specs.IsWellFormed.{isWellFormed}
 use Rattle.history.specs.History.{call, run, runLent}
 use Rattle.history.proofs.Theorem.{any-lists}
 use Rattle.examples.specs.Orders.{oneLine}
-use Rattle.examples.specs.Altered.{overfull, threeKeys, takenOut, Altered}
+use Rattle.corollaries.specs.Altered.{overfull, threeKeys, takenOut, Altered}
 use Rattle.examples.proofs.Passing.{codeOf, same-activity}
 
 ordered-tested : T (sameTable (overfull .ordered) (ones (4 ∷ 5 ∷ 3 ∷ [])))
 unfolding sameTable call run runLent isWellFormed rule settled absorbed insertStep findStep deleteStep meetsEmpty meetsKey first all some dist probe

@@ -15,10 +15,10 @@ use Rattle.rule.specs.Schedules.{ones}
 use Rattle.phases.specs.Promise.{Right, Roomy, SameOrders}
 use Rattle.protocol.specs.Lines.{Priced, Good, Earliest, Fills}
 use Rattle.history.specs.Promise.{OfLine}
 use Rattle.examples.specs.Examples.{atPrices}
-use Rattle.examples.specs.Corollaries.{priceItems, workerBeforeBlank}
+use Rattle.corollaries.specs.Corollaries.{priceItems, workerBeforeBlank}
 use Rattle.examples.specs.Orders.{oneLine, atOnes}
 use Rattle.examples.specs.Repairs.{gapped, disordered, full}
 
 pub record Meanings : Type 0 where
   -- equal least ordered prices: a higher price besides plays no part, another least one does; outside put-in shifts no price does

@@ -11,8 +11,8 @@ use Rattle.homes.specs.Homes.{plain, spread}
 use Rattle.prices.specs.Contents.{label, price, content}
 use Rattle.flaws.specs.Promise.{Intact, Damaged, Breaks, Gapped, Disordered}
 use Rattle.rule.specs.Schedules.{ones}
 use Rattle.examples.specs.Repairs.{gapped, disordered, full}
-use Rattle.examples.proofs.Members.{apart}
+use Rattle.corollaries.proofs.Members.{apart}
 
 -- ---- the cells by themselves
 pub disordered-intact : Intact disordered

@@ -257,9 +257,10 @@ abbrev pub AllPrint : List Sheet → Type 0
 AllPrint [] = Unit {0}
 AllPrint (s ∷ ss) = Prints s × AllPrint ss
 
+-- those that must-fail edits change stand first: computing ends at the first that prints otherwise
 abbrev pub sheets : List Sheet
 sheets =
-    document01 ∷ puttingIn ∷ every ∷ gapped ∷ cheapest ∷ carried ∷ meeting ∷ three ∷ kept ∷ seven ∷ grocer ∷ withoutLabel ∷ withoutPrice ∷ overpriced ∷ earliest
+    withoutPrice ∷ earliest ∷ seven ∷ grocer ∷ cheapest ∷ carried ∷ document01 ∷ puttingIn ∷ every ∷ gapped ∷ meeting ∷ three ∷ kept ∷ withoutLabel ∷ overpriced
     ∷ evenRefused ∷ spread ∷ reopened
     ∷ empty ∷ blankLine ∷ unended ∷ long ∷ carriageReturn ∷ shut
     -- `open` with other numbers than four

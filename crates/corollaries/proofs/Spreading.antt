@@ -59,17 +59,17 @@ use Rattle.history.specs.Promise.{entriesAfter, Alike, Claim}
 use Rattle.history.proofs.Theorem.{any-lists, fixed, one-table, refused, two-turns}
 use Rattle.history.proofs.Theorem as histories
 use Rattle.numbered.specs.Numbers.{turnAnswer}
 use Rattle.examples.specs.Forms.{emptyCells, phaseBy, worker, allIdle, busyBy}
 use Rattle.examples.specs.Orders.{oneLine}
-use Rattle.examples.specs.Altered.{threeKeys}
+use Rattle.corollaries.specs.Altered.{threeKeys}
 use Rattle.examples.specs.Spreading.{sixLess, sixLessImage, golden, thrice, twice}
 use Rattle.examples.specs.Examples.{four, sheetItems}
-use Rattle.examples.specs.Corollaries.{turnsOf, rounds, together, inSequence, threeItems, threePutIn, sixPlaces}
-use Rattle.examples.specs.Corollaries.{spreadPutIn, greaterFirst, smallerFirst, oneByOne, fewSpread, manySpread, deletingBy, likeInFour, corner, cornerPutIn}
-use Rattle.examples.specs.Corollaries.{SpreadCorollaries}
+use Rattle.corollaries.specs.Corollaries.{turnsOf, rounds, together, inSequence, threeItems, threePutIn, sixPlaces}
+use Rattle.corollaries.specs.Corollaries.{spreadPutIn, greaterFirst, smallerFirst, oneByOne, fewSpread, manySpread, deletingBy, likeInFour, corner, cornerPutIn}
+use Rattle.corollaries.specs.Corollaries.{SpreadCorollaries}
 use Rattle.examples.proofs.Passing.{well-unspoilt, ill-spoilt}
 use Rattle.examples.proofs.Sound.{sound-says}
-use Rattle.examples.proofs.Members.{apart, allIn, leastIn, same-prices, same-keys, same-orders}
+use Rattle.corollaries.proofs.Members.{apart, allIn, leastIn, same-prices, same-keys, same-orders}
 
 -- ---- openings
 puts-open : (openReply gateway 1 2 sixLess (emptyCells 5) sheetItems ≡ Accepted) × (openReply gateway 1 3 sixLess (emptyCells 5) threeItems ≡ Accepted)

@@ -28,7 +28,7 @@ use Rattle.migration.specs.declared.Task.the-variants.{Fetching}
 use Rattle.till.specs.Till.{tillCall, tillAfter}
 use Rattle.examples.specs.Forms.{emptyCells, phase, allIdle, busyOne, handedBack, callsOf}
 use Rattle.examples.specs.Examples.{four, sheetItems, sheetPutsIn}
-use Rattle.examples.specs.Corollaries.{together, inSequence, threeItems, threePutIn, priceItems, twoPrice, morePriceItems, threePrice}
+use Rattle.corollaries.specs.Corollaries.{together, inSequence, threeItems, threePutIn, priceItems, twoPrice, morePriceItems, threePrice}
 
 -- ---- rows
 abbrev pub lengths : List ℕ

@@ -47,14 +47,14 @@ use Rattle.protocol.specs.declared.TurnReply.the-variants.{Answered}
 use Rattle.tables.specs.Calls.{checkCall, countCall, listCall, listAfter, listFront}
 use Rattle.history.specs.History.{Call, order, turn, close, after, afterLent}
 use Rattle.history.specs.Promise.{Carried, present, OfLine}
 use Rattle.examples.specs.Forms.{emptyCells, phaseBy, phase, worker, allIdle, busyBy, busyOne, handedBack, line, handed, callsOf}
 use Rattle.examples.specs.Forms.{Spoilt, Unspoilt}
 use Rattle.examples.specs.Limits.{twoGroups}
 use Rattle.examples.specs.Orders.{oneLine, wrongLines}
 use Rattle.examples.specs.Repairs.{gapped, disordered, full, torn, oldImage, newImage}
 use Rattle.examples.specs.Spreading.{sixLess, sixLessImage, golden, thrice, twice}
-use Rattle.examples.specs.Altered.{threeKeys}
+use Rattle.corollaries.specs.Altered.{threeKeys}
 use Rattle.examples.specs.Examples.{four, atPrices, sheetItems, sheetPutsIn, looksUp, anyLine}
 
 -- ---- lists of calls
 -- r rounds of turns of the workers ws, put before further calls

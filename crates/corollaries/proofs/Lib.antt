@@ -1,0 +1,9 @@
+pub mod Altered
+pub mod Corollaries
+pub mod Lending
+pub mod Lengths
+pub mod Meanings
+pub mod Members
+pub mod Single
+pub mod Spreading
+pub mod Unsound

@@ -1,0 +1,4 @@
+pub mod Altered
+pub mod Corollaries
+pub mod Lengths
+pub mod Meanings
