@@ -26,7 +26,7 @@ extern "C" {
 /* Values: a count, the price that a find found, or VULZEGAN_ACCEPTED where a call gives no value and is not refused. */
 #define VULZEGAN_ACCEPTED UINT64_C(0)
 
-/* Refusals: VULZEGAN_REFUSED + the number of documents 01 and 02, 1 to 21 and 23; 22 is for a single reply of a round. A refusal changes nothing. */
+/* Refusals: VULZEGAN_REFUSED + the number of documents 01 and 02, 1 to 21, 23 and 24; 22 is for a single reply of a round. A refusal changes nothing. */
 #define VULZEGAN_REFUSED UINT64_C(4294967296)
 
 /* The refusals of a table that is not sound. UNSOUND: no cell is empty, or some cell other than 0 has no key or a price outside the limits.
@@ -46,6 +46,10 @@ extern "C" {
 
 /* The refusal of a table to move to: some cell is not 0, or it has no more cells than there are keys to move. */
 #define VULZEGAN_UNFIT (VULZEGAN_REFUSED + 23)
+
+/* The refusal of a list of orders or a list sent that has a key from 4,000,000,000 up, for factory tests, which no shop adds, also if the table has it
+ * already: of a line behind 7 and before 14. Such keys in a table are checked, counted, listed, found, deleted, replied to and moved as any others. */
+#define VULZEGAN_TEST_NUMBER (VULZEGAN_REFUSED + 24)
 
 /* The answers to the single replies of a round, each of 32 bits: ACCEPTED, or the number of documents 01 and 02. BLANK: the key is 0. NO_WORKER:
  * the worker is not below count. ABSENT: the table that was lent has no such key. The first to apply, in this sequence. */
@@ -80,6 +84,8 @@ struct vulzegan_order {
 
 /* Whether a phase of a kind (1 insert, 2 delete, 3 find) with count workers opens on cells by a and b: VULZEGAN_ACCEPTED or a refusal.
  * An insert phase opens for a list of at most 65,536 orders, whose keys and those of the table, each counted once, are fewer than the cells.
+ * Behind the refusals of the table and before 9, the earliest line decides that has one of these, first to apply: 7 for key 0,
+ * VULZEGAN_TEST_NUMBER, 14 for a price outside the limits, 6 for a worker not below count.
  * The other kinds do not read the list. Opening a phase takes some 185 KB of stack, here and in all functions below but that of moves. */
 uint64_t vulzegan_open(uint64_t kind, uint64_t count, uint32_t a, uint32_t b, const uint64_t *cells, size_t cells_len,
                        const struct vulzegan_order *orders, size_t orders_len);
@@ -121,7 +127,8 @@ uint64_t vulzegan_run_calls_singly(uint64_t kind, uint64_t count, uint32_t a, ui
  *
  * The refusals, first to apply: 2 if count is not 1 to 16; then, of the earliest record that has one of them, VULZEGAN_BAD_RECORD before
  * VULZEGAN_BAD_FIELD; at last 12 if one of the three lists has fewer places than the text has records. A text without bytes is a broken record.
- * Key 0, prices outside the limits and more than 65,536 records are read here, and refused when a phase is opened with them. */
+ * Key 0, keys from 4,000,000,000 up, prices outside the limits and more than 65,536 records are read here, and refused when a phase is opened
+ * with them. */
 uint64_t vulzegan_read_till(const uint8_t *text, size_t text_len, uint64_t count, uint32_t *keys, size_t keys_len,
                             uint32_t *prices, size_t prices_len, uint32_t *workers, size_t workers_len);
 
@@ -130,9 +137,9 @@ uint64_t vulzegan_read_till(const uint8_t *text, size_t text_len, uint64_t count
  * is then sound by a and b, with the keys sent and no others, each at the least price sent for it.
  *
  * The refusals are those of an insert phase on a table of as many empty cells, first to apply: 1 for the number of cells, 2 if count is not
- * 1 to 16, VULZEGAN_EVEN, 16 for more than 65,536 lines; then, of the earliest line that has one of them, 7 for key 0, 14 for a price outside
- * the limits, 6 for a worker not below count; at last 9 if the keys sent, each counted once, are as many as the cells or more. This takes some
- * 250 KB of stack. */
+ * 1 to 16, VULZEGAN_EVEN, 16 for more than 65,536 lines; then, of the earliest line that has one of them, 7 for key 0, VULZEGAN_TEST_NUMBER,
+ * 14 for a price outside the limits, 6 for a worker not below count; at last 9 if the keys sent, each counted once, are as many as the cells or
+ * more. This takes some 250 KB of stack. */
 uint64_t vulzegan_round_open(uint64_t count, uint32_t a, uint32_t b, uint64_t *cells, size_t cells_len, const uint32_t *keys, size_t keys_len,
                              const uint32_t *prices, size_t prices_len, const uint32_t *workers, size_t workers_len);
 

@@ -15,7 +15,7 @@ use conformance::{
 };
 use reference::generate::factory::{self, GOLDEN};
 use reference::generate::till::{written, Quotes, Record};
-use reference::generate::Rng;
+use reference::generate::{is_shop_label, shop_label, Rng};
 use reference::layout::{content, label_of, layout, way_is_greater, Homes, Prices, MAX_PRICE};
 use reference::listing;
 use reference::model::{Model, GATEWAY, KIOSK};
@@ -234,7 +234,7 @@ fn recorded(model: Model, cells: usize, kind: u64) -> Shift {
         let worker = random.below(model.max_workers) as u32;
         if phase.workers[worker as usize] == Activity::Idle && list.len() < 2000 {
             if kind == 1 && known.len() < cells / 2 {
-                known.push(random.below(u32::MAX as usize) as u32 + 1);
+                known.push(shop_label(&mut random));
             }
             let key = if kind == 1 && list.len() < known.len() { known[list.len()] } else { known[random.below(known.len())] };
             let line = list.len() as u32;
@@ -328,17 +328,20 @@ fn factory() {
     }
 }
 
-/// Different labels: at random, in steps of 100, or with products by 2654435769 modulo 2 to the 32 that begin with the same 14 bits.
+/// Different labels that a shop may add: at random, in steps of 100, or with products by 2654435769 modulo 2 to the 32 that begin with the same 14 bits.
 fn labels(family: &str, count: u32) -> Vec<u32> {
     const INVERSE: u32 = 340_573_321;
     assert_eq!(INVERSE.wrapping_mul(2_654_435_769), 1);
     match family {
         "in steps of 100" => (1..=count).map(|i| 100 * i).collect(),
-        "against the multiplier" => (0..count).map(|i| (0x8000_0000 + i).wrapping_mul(INVERSE)).collect(),
+        "against the multiplier" => {
+            let drawn = (0x8000_0000..).map(|i: u32| i.wrapping_mul(INVERSE));
+            drawn.filter(|&label| is_shop_label(label)).take(count as usize).collect()
+        }
         _ => {
             let mut random = Rng::new(13);
             let mut known = HashSet::new();
-            let drawn = std::iter::repeat_with(|| random.below(u32::MAX as usize) as u32 + 1);
+            let drawn = std::iter::repeat_with(|| shop_label(&mut random));
             drawn.filter(|&label| known.insert(label)).take(count as usize).collect()
         }
     }
@@ -393,7 +396,7 @@ fn sheet(by_run: bool) -> Vec<u8> {
     for _ in 0..4 {
         let mut orders = Vec::new();
         for place in 0..880 {
-            let key = random.below(u32::MAX as usize) as u32 + 1;
+            let key = shop_label(&mut random);
             known.push(key);
             text.extend(format!("item\t{}\t{key}\t{}\n", place % 16, price(key)).bytes());
             orders.extend(format!("order\t{place}\n").bytes());

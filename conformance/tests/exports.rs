@@ -12,12 +12,13 @@ use conformance::{
 };
 use reference::generate::factory::{self, crowding, FITTED, GOLDEN, PRIME};
 use reference::generate::{
-    all_lists, even_homes, fill, homes, label_with, later, orders, other_homes, overwrite, price, returned, spoil, table, torn, Rng, WRONG_PRICES,
+    all_lists, even_homes, fill, homes, is_shop_label, label_with, later, orders, other_homes, overwrite, price, returned, shop_label, spoil, table,
+    test_label, torn, Rng, WRONG_PRICES,
 };
-use reference::layout::{content, is_sound, label_of, layout, Homes, Prices, MAX_PRICE};
+use reference::layout::{content, is_sound, label_of, layout, price_of, Homes, Prices, MAX_PRICE};
 use reference::listing::{self, GROUP};
 use reference::model::{Model, GATEWAY, KIOSK};
-use reference::phase::{Activity, Order, Phase, LOOK_UP, PUT_IN, TAKE_OUT};
+use reference::phase::{Activity, Order, Phase, FIRST_TEST_LABEL, LOOK_UP, PUT_IN, TAKE_OUT};
 use reference::refusal;
 
 for_both_models! {
@@ -38,6 +39,8 @@ for_both_models! {
     all_small_openings,
     long_lists,
     a_shift_without_orders_keeps_its_table,
+    lists_with_test_numbers,
+    tables_with_test_numbers,
     prices_and_lines,
     the_shortest_list_decides,
     the_shortest_part_of_the_orders_decides,
@@ -273,13 +276,15 @@ fn numbers_of_the_header() {
     for (n, name) in [(1, "WENT_ON"), (2, "FINISHED"), (4, "NO"), (5, "IDLE")] {
         assert_eq!(meaning(&format!("VULZEGAN_{name}")), format!("(VULZEGAN_WORDS + {n})"));
     }
-    for (n, name) in [(4, "UNSOUND"), (17, "GAP"), (18, "DISORDER"), (19, "BAD_RECORD"), (20, "BAD_FIELD"), (21, "EVEN"), (23, "UNFIT")] {
+    for (n, name) in
+        [(4, "UNSOUND"), (17, "GAP"), (18, "DISORDER"), (19, "BAD_RECORD"), (20, "BAD_FIELD"), (21, "EVEN"), (23, "UNFIT"), (24, "TEST_NUMBER")]
+    {
         assert_eq!(meaning(&format!("VULZEGAN_{name}")), format!("(VULZEGAN_REFUSED + {n})"));
     }
     for (n, name) in [(0, "ACCEPTED"), (6, "NO_WORKER"), (7, "BLANK"), (22, "ABSENT")] {
         assert_eq!(meaning(&format!("VULZEGAN_REPLY_{name}")), format!("UINT32_C({n})"));
     }
-    assert!(header.contains("VULZEGAN_REFUSED + the number of documents 01 and 02, 1 to 21 and 23;"));
+    assert!(header.contains("VULZEGAN_REFUSED + the number of documents 01 and 02, 1 to 21, 23 and 24;"));
     let functions: Vec<&str> = header.lines().filter(|l| l.contains(" vulzegan_") && l.contains('(')).collect();
     assert!(functions.len() == 20 && functions.iter().all(|l| l.starts_with("uint64_t vulzegan_")), "{functions:?}");
     let text = header.split_whitespace().collect::<Vec<_>>().join(" ");
@@ -374,7 +379,7 @@ fn openings_refuse_in_order(model: Model) {
     };
     let long = vec![put(9, 0, 0); 65_537];
     let full = [put(0, 1, 1), put(0, 2, 1), put(0, 3, 1)];
-    let bad = [(put(9, 0, 0), 7), (put(9, 5, 0), 14), (put(9, 5, 1), 6)];
+    let bad = [(put(9, 0, 0), 7), (put(9, FIRST_TEST_LABEL, 0), 24), (put(9, u32::MAX, 1), 24), (put(9, 5, 0), 14), (put(9, 5, 1), 6)];
     // full, a price without a label, a wrong price, a label behind an empty cell, and one behind a smaller label
     let (one, four) = (content(1, 1), content(4, 1));
     for (unsound, number) in [([one; 3], 4), ([0, 0, 1], 4), ([0, content(1, 0), 0], 4), ([one, 0, 0], 17), ([0, one, four], 18)] {
@@ -423,7 +428,7 @@ fn openings_refuse_in_order(model: Model) {
 /// Openings of every kind, without a list, with lines that a sound table takes, with a bad line behind one of them, and with more labels than
 /// it has room for. The answer that they have in common where the table is not sound, otherwise 0.
 fn same_openings(model: Model, homes: Homes, table: &[u64]) -> u64 {
-    let many: Vec<Order> = (0..=table.len() as u32).map(|i| put(1, u32::MAX - i, 7)).collect();
+    let many: Vec<Order> = (0..=table.len() as u32).map(|i| put(1, FIRST_TEST_LABEL - 1 - i, 7)).collect();
     let calls = [Call { op: 1, line: 0, worker: 0, key: 5 }, turn(0), turn(0), turn(1), close()];
     let answer = reference_open(model, 2, 2, homes, table, &[]);
     for kind in 1..=3 {
@@ -589,7 +594,8 @@ fn two_cells_with_7(model: Model) {
         (vec![put(0, 7, 9); 3], 0),
         (vec![put(0, 1, 1)], REFUSED + 9),
         (vec![put(0, 8, 1)], REFUSED + 9),
-        (vec![put(0, 7, 1), put(0, u32::MAX, 1)], REFUSED + 9),
+        (vec![put(0, 7, 1), put(0, FIRST_TEST_LABEL - 1, 1)], REFUSED + 9),
+        (vec![put(0, 7, 1), put(0, u32::MAX, 1)], REFUSED + 24),
     ] {
         assert_eq!(Orders::of(&list).open(model, 1, 1, Homes::PLAIN, &table), full);
         for kind in 1..=3 {
@@ -600,14 +606,15 @@ fn two_cells_with_7(model: Model) {
 
 /// Every list of up to three lines of a few labels, prices and workers, on every sound table of three cells and labels 1 to 3.
 fn all_small_openings(model: Model) {
-    let lines: Vec<Order> = [put(0, 0, 1), put(0, 1, 0), put(1, 1, 1)].into_iter().chain((1..=4).map(|label| put(0, label, 1))).collect();
+    let bad = [put(0, 0, 1), put(0, FIRST_TEST_LABEL, 1), put(0, 1, 0), put(1, 1, 1)];
+    let lines: Vec<Order> = bad.into_iter().chain((1..=4).map(|label| put(0, label, 1))).collect();
     let mut lists = vec![vec![]];
     for length in 0..3 {
         let longer = |list: &Vec<Order>| lines.iter().map(|&line| [&list[..], &[line]].concat()).collect::<Vec<_>>();
         let longest = lists.iter().filter(|list| list.len() == length).flat_map(longer).collect::<Vec<_>>();
         lists.extend(longest);
     }
-    assert_eq!(lists.len(), 1 + 7 + 49 + 343);
+    assert_eq!(lists.len(), 1 + 8 + 64 + 512);
     for homes in [Homes::PLAIN, Homes { a: u32::MAX, b: 5 }] {
         for table in tables(homes, 3, 3, &[1]) {
             for list in &lists {
@@ -619,16 +626,23 @@ fn all_small_openings(model: Model) {
     }
 }
 
-/// The labels of a list, by the ways in which a count of them may go wrong: near each other, in steps, at one place under a multiplier.
-fn family(random: &mut Rng, which: usize, i: u32) -> u32 {
-    match which {
-        0 => 1 + i,
-        1 => 100 * (1 + i),
-        2 => u32::MAX - i,
-        3 => (1 + i) << 16,
-        // the inverse of 2654435769: all products by that number begin with the same bits
-        4 => (0x8000_0000 + i).wrapping_mul(340_573_321),
-        _ => random.below(u32::MAX as usize) as u32 + 1,
+/// The next label of a list that a shop may add, by the ways in which a count of them may go wrong: near each other, in steps, at one place under a
+/// multiplier.
+fn family(random: &mut Rng, which: usize, i: &mut u32) -> u32 {
+    loop {
+        let label = match which {
+            0 => 1 + *i,
+            1 => 100 * (1 + *i),
+            2 => FIRST_TEST_LABEL - 1 - *i,
+            3 => (1 + *i) << 16,
+            // the inverse of 2654435769: all products by that number begin with the same bits
+            4 => (0x8000_0000 + *i).wrapping_mul(340_573_321),
+            _ => shop_label(random),
+        };
+        *i += 1;
+        if is_shop_label(label) {
+            return label;
+        }
     }
 }
 
@@ -643,15 +657,15 @@ fn long_lists(model: Model) {
         let mut set = Prices::new();
         let mut i = 0;
         while set.len() < standing {
-            set.insert(family(random, which, i), price(random));
-            i += 1;
+            set.insert(family(random, which, &mut i), price(random));
         }
         let homes = some_homes(random);
         let table = layout(homes, cells, &set);
         let old: Vec<u32> = set.into_keys().collect();
         for together in [cells - 1, cells, cells + 1] {
             let mut labels = old.clone();
-            labels.extend((i..).take(together - standing).map(|i| family(random, which, i)));
+            let mut i = i;
+            labels.extend((standing..together).map(|_| family(random, which, &mut i)));
             let length = random.pick(&[labels.len(), 2 * labels.len(), 65_535, 65_536, 65_537]);
             while labels.len() < length {
                 let label = random.pick(&labels);
@@ -679,6 +693,78 @@ fn a_shift_without_orders_keeps_its_table(model: Model) {
             assert_eq!(same_run(model, kind, 2, Homes::PLAIN, &table, list, &[close(), turn(0), close()]), table);
         }
     }
+}
+
+// ---- test numbers
+
+/// The test numbers of a table, with their prices.
+fn tests_of(table: &[u64]) -> Prices {
+    table.iter().filter(|&&cell| label_of(cell) >= FIRST_TEST_LABEL).map(|&cell| (label_of(cell), price_of(cell))).collect()
+}
+
+/// The last label that a shop adds and the first for tests, alone and behind others; also where the table has that label already.
+fn lists_with_test_numbers(model: Model) {
+    let random = &mut Rng::new(41);
+    for label in [1, FIRST_TEST_LABEL - 1, FIRST_TEST_LABEL, FIRST_TEST_LABEL + 1, 4_294_967_290, u32::MAX] {
+        let number = if label < FIRST_TEST_LABEL { 0 } else { REFUSED + 24 };
+        let homes = some_homes(random);
+        for set in [Prices::new(), Prices::from([(label, 5)]), Prices::from([(u32::MAX, 9), (FIRST_TEST_LABEL, 2)])] {
+            let table = layout(homes, 7, &set);
+            for list in [vec![put(0, label, 3)], vec![put(1, 7, 1), put(0, 8, 2), put(0, label, 9)]] {
+                assert_eq!(Orders::of(&list).open(model, 1, 2, homes, &table), number, "{label}");
+                for kind in 1..=3 {
+                    let calls = dealt_or_none(random, model, kind, 2, homes, &table, &list);
+                    same_run(model, kind.into(), 2, homes, &table, &list, &calls);
+                }
+            }
+        }
+    }
+}
+
+/// The calls of a shift with these orders if it opens, otherwise none.
+fn dealt_or_none(random: &mut Rng, model: Model, kind: u32, crew: u32, homes: Homes, table: &[u64], orders: &[Order]) -> Vec<Call> {
+    match reference_open(model, kind.into(), crew.into(), homes, table, orders) {
+        0 => dealt(random, model, kind, crew, homes, table, orders),
+        _ => vec![],
+    }
+}
+
+/// Tables that have test numbers, in every call: they are counted, listed, found and taken out as the others, stay where labels are put in beside
+/// them, and no list sends one again.
+fn tables_with_test_numbers(model: Model) {
+    let random = &mut Rng::new(42);
+    let (mut kept, mut refused) = (0, 0);
+    for _ in 0..3000 {
+        let cells = random.within(2, 30);
+        let homes = some_homes(random);
+        let mut set = Prices::new();
+        for _ in 0..random.below(cells) {
+            let label = if random.once_in(2) { test_label(random) } else { 1 + random.below(3 * cells) as u32 };
+            set.insert(label, price(random));
+        }
+        let table = layout(homes, cells, &set);
+        same_at_rest(model, homes, &table, random.below(cells + 1));
+        assert_eq!(count(model, homes, &table), Ok(set.len()));
+        let crew = random.within(1, model.max_workers) as u32;
+        for kind in [PUT_IN, TAKE_OUT, LOOK_UP] {
+            let mut orders = orders(random, &table, crew as usize, 3 * cells);
+            if kind != PUT_IN || random.once_in(8) {
+                let labels: Vec<u32> = set.keys().copied().chain([test_label(random)]).collect();
+                orders.extend((0..random.below(cells)).map(|_| put(random.below(crew as usize) as u32, random.pick(&labels), price(random))));
+            }
+            let opening = reference_open(model, kind.into(), crew.into(), homes, &table, &orders);
+            refused += usize::from(opening == REFUSED + 24);
+            let calls = dealt_or_none(random, model, kind, crew, homes, &table, &orders);
+            let left = same_run(model, kind.into(), crew.into(), homes, &table, &orders, &calls);
+            let entries: Vec<Entry> = orders.iter().map(|order| (order.label, order.price)).collect();
+            assert_eq!(left, if opening == 0 { closed(kind, homes, &table, &entries) } else { table.clone() });
+            if kind != TAKE_OUT {
+                assert_eq!(tests_of(&left), tests_of(&table));
+                kept += tests_of(&left).len();
+            }
+        }
+    }
+    assert!(kept > 3000 && refused > 100, "{kept} kept, {refused} refused");
 }
 
 // ---- calls
@@ -731,7 +817,7 @@ fn the_shortest_list_decides(model: Model) {
 fn the_shortest_part_of_the_orders_decides(model: Model) {
     let table = [0, 0, 0, content(8, 9), 0];
     let good = [put(0, 8, 3), put(1, 13, 2)];
-    for more in [put(0, 0, 0), put(9, 5, 1), put(0, 1, 1), put(0, 8, 0)] {
+    for more in [put(0, 0, 0), put(0, u32::MAX, 1), put(9, 5, 1), put(0, 1, 1), put(0, 8, 0)] {
         let orders = [good[0], good[1], more, put(0, 2, 1), put(0, 3, 1)];
         for short in 0..=orders.len() {
             for which in 0..3 {
@@ -993,7 +1079,7 @@ fn the_assortment_sent_again(model: Model) {
     for cells in lengths.into_iter().filter(|&cells| model.is_length(cells)) {
         let mut set = Prices::new();
         while set.len() + 1 < cells {
-            set.insert(random.below(u32::MAX as usize) as u32 + 1, price(random));
+            set.insert(shop_label(random), price(random));
         }
         let homes = some_homes(random);
         let opening = layout(homes, cells, &set);
@@ -1141,7 +1227,15 @@ fn disorder(homes: Homes, cells: usize) -> Vec<u64> {
 fn even_a_in_its_place(model: Model) {
     let full = vec![put(0, 5, 1), put(0, 6, 1), put(0, 7, 1)];
     let long = vec![put(9, 0, 0); 65_537];
-    let lists = [(vec![put(0, 0, 1)], 7), (vec![put(0, 5, 0)], 14), (vec![put(1, 5, 1)], 6), (full, 9), (long, 16), (vec![put(0, 5, 1)], 0)];
+    let lists = [
+        (vec![put(0, 0, 1)], 7),
+        (vec![put(0, FIRST_TEST_LABEL, 0)], 24),
+        (vec![put(0, 5, 0)], 14),
+        (vec![put(1, 5, 1)], 6),
+        (full, 9),
+        (long, 16),
+        (vec![put(0, 5, 1)], 0),
+    ];
     let lists = lists.map(|(list, behind)| (Orders::of(&list), list, behind));
     let no_calls = Calls::default();
     let most = model.max_workers as u64;
@@ -1206,7 +1300,7 @@ fn by_the_paper(homes: Homes, label: u32, cells: usize) -> usize {
     (product % 4_294_967_296 % cells as u128) as usize
 }
 
-/// One label by itself: its home is where it comes to stand, the only cell where it may, and where a look-up and a take-out find it.
+/// One label by itself: its home is where it comes to stand if a shop may add it, the only cell where it may, and where a look-up and a take-out find it.
 fn at_home_by_itself(model: Model, homes: Homes, label: u32, cells: usize) {
     let home = by_the_paper(homes, label, cells);
     let empty = vec![0; cells];
@@ -1218,7 +1312,8 @@ fn at_home_by_itself(model: Model, homes: Homes, label: u32, cells: usize) {
     assert_eq!(check(model, homes, &elsewhere), Err(refusal::GAP), "{homes:?} {label} {cells}");
     let orders = [put(0, label, 3)];
     let calls = |order: Call| [order, turn(0), turn(0), turn(0), turn(0), close()];
-    assert_eq!(same_run(model, 1, 1, homes, &empty, &orders, &calls(order_line(0))), alone);
+    let put_in = same_run(model, 1, 1, homes, &empty, &orders, &calls(order_line(0)));
+    assert_eq!(put_in, if is_shop_label(label) { alone.clone() } else { empty.clone() });
     assert_eq!(same_run(model, 3, 1, homes, &alone, &[], &calls(order(0, label))), alone);
     assert_eq!(same_run(model, 2, 1, homes, &alone, &[], &calls(order(0, label))), empty);
 }
@@ -1227,7 +1322,7 @@ fn at_home_by_itself(model: Model, homes: Homes, label: u32, cells: usize) {
 fn homes_of_single_labels(model: Model) {
     let random = &mut Rng::new(21);
     for homes in pairs(&ODD) {
-        for label in [1, 2, 13, 100, 1 << 31, u32::MAX - 1, u32::MAX] {
+        for label in [1, 2, 13, 100, 1 << 31, FIRST_TEST_LABEL - 1, FIRST_TEST_LABEL, u32::MAX] {
             for cells in [2, 3, 5, 7, 64, 255, 256, 1025, 8191, 8192].into_iter().filter(|&cells| model.is_length(cells)) {
                 at_home_by_itself(model, homes, label, cells);
             }
@@ -1302,7 +1397,7 @@ fn large_shifts_under_any_homes(model: Model) {
         let homes = if round == 0 { GOLDEN } else { homes(random) };
         let mut set = Prices::new();
         while set.len() < cells / 2 {
-            set.insert(random.below(u32::MAX as usize) as u32 + 1, price(random));
+            set.insert(shop_label(random), price(random));
         }
         let mut table = layout(homes, cells, &set);
         for kind in [TAKE_OUT, PUT_IN] {

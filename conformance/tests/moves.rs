@@ -10,7 +10,9 @@ use conformance::{
     check, close, count, for_both_models, list, order, reference_move_call, reference_run_moves, turn, Call, Calls, Orders, MODELS, REFUSED, WORDS,
 };
 use reference::generate::moving::{cells as new_cells, unfit};
-use reference::generate::{all_lists, even_homes, fill, homes, label_with, labels_of, other_homes, overwrite, price, returned, table, Rng};
+use reference::generate::{
+    all_lists, even_homes, fill, homes, label_with, labels_of, other_homes, overwrite, price, returned, table, test_label, Rng,
+};
 use reference::layout::{content, label_of, layout, least_prices, price_of, Homes, Prices};
 use reference::model::{Model, KIOSK};
 use reference::moving::{Move, Task};
@@ -27,6 +29,7 @@ for_both_models! {
     every_state_and_every_call,
     random_lists_of_calls,
     whole_moves,
+    test_numbers_are_moved,
     moved_tables_in_other_calls,
     moved_on_and_back,
     the_greatest_moves,
@@ -418,6 +421,24 @@ fn whole_moves(model: Model) {
         smaller += usize::from(new < cells);
     }
     assert!(larger > 2000 && smaller > 1000, "{larger} larger, {smaller} smaller");
+}
+
+/// Tables of test numbers and others, from one cell more than there are labels on.
+fn test_numbers_are_moved(model: Model) {
+    let random = &mut Rng::new(15);
+    assert_eq!(moved(random, model, Homes::PLAIN, &cells([u32::MAX, 0, 0, 0, 0]), 7), cells([0, 0, 0, u32::MAX, 0, 0, 0]));
+    for _ in 0..2000 {
+        let cells = random.within(2, 30);
+        let homes = homes(random);
+        let mut set = Prices::new();
+        for _ in 0..random.below(cells) {
+            let label = if random.once_in(4) { 1 + random.below(3 * cells) as u32 } else { test_label(random) };
+            set.insert(label, price(random));
+        }
+        let new = random.within(2.max(set.len() + 1), 2 * cells);
+        let left = moved(random, model, homes, &layout(homes, cells, &set), new);
+        assert_eq!(least_prices(left), set);
+    }
 }
 
 /// A moved table is checked, counted and listed as any other, its labels are found at their prices, and shifts open on it and close.

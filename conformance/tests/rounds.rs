@@ -7,11 +7,11 @@ use conformance::trials::{cells, guarded, some_cells, Tally, GUARD, NO_COUNTS};
 use conformance::{for_both_models, reference_round_close, reference_round_open, round_close, round_open, Orders, Replies, MODELS};
 use reference::generate::round::replies;
 use reference::generate::{
-    all_lists, even_homes, homes, labels_of, later, orders, other_homes, overwrite, price, returned, spoil, table, Rng, WRONG_PRICES,
+    all_lists, even_homes, homes, labels_of, later, orders, other_homes, overwrite, price, returned, shop_label, spoil, table, Rng, WRONG_PRICES,
 };
 use reference::layout::{content, label_of, layout, Homes, Prices};
 use reference::model::Model;
-use reference::phase::Order;
+use reference::phase::{Order, FIRST_TEST_LABEL};
 use reference::round::Reply;
 
 for_both_models! {
@@ -23,6 +23,7 @@ for_both_models! {
     long_lists_sent,
     closings_refuse_in_order,
     all_small_closings,
+    replies_for_test_numbers,
     random_closings,
     places_to_spare_and_one_too_few,
     many_replies,
@@ -176,7 +177,15 @@ fn openings_refuse_in_order(model: Model) {
     let even = Homes { a: 2, b: 0 };
     let long = vec![line(99, 0, 0); 65_537];
     let full = [line(0, 1, 1), line(0, 2, 1), line(0, 3, 1)];
-    let bad = [(line(99, 0, 0), 7), (line(0, 0, 1), 7), (line(99, 5, 0), 14), (line(0, 5, 10_000_000), 14), (line(1, 5, 1), 6)];
+    let bad = [
+        (line(99, 0, 0), 7),
+        (line(0, 0, 1), 7),
+        (line(99, FIRST_TEST_LABEL, 0), 24),
+        (line(0, u32::MAX, 1), 24),
+        (line(99, 5, 0), 14),
+        (line(0, FIRST_TEST_LABEL - 1, 10_000_000), 14),
+        (line(1, 5, 1), 6),
+    ];
     for stands in [0, 1, content(1, 1), content(5, 0), u64::MAX] {
         let mut refused = |length: usize, count, homes, sent: &[Order], number| {
             assert_eq!(same_opening(random, model, count, homes, &vec![stands; length], sent), Err(number));
@@ -215,8 +224,9 @@ fn openings_refuse_in_order(model: Model) {
 fn all_small_openings(model: Model) {
     let random = &mut Rng::new(3);
     let mut tally = Tally::default();
-    let lines =
-        [line(0, 1, 5), line(1, 1, 3), line(0, 4, 9), line(1, 4, 8), line(0, 3, 1), line(0, 8, 1), line(0, 0, 1), line(2, 1, 1), line(0, 1, 0)];
+    let good = [line(0, 1, 5), line(1, 1, 3), line(0, 4, 9), line(1, 4, 8), line(0, 3, 1), line(0, 8, 1)];
+    let bad = [line(0, 0, 1), line(0, FIRST_TEST_LABEL, 1), line(2, 1, 1), line(0, 1, 0)];
+    let lines = [&good[..], &bad].concat();
     for cells in 2..=4 {
         for length in 0..=3 {
             for list in all_lists(length, &lines) {
@@ -226,7 +236,7 @@ fn all_small_openings(model: Model) {
             }
         }
     }
-    tally.each(&[0, 6, 7, 9, 14], 100);
+    tally.each(&[0, 6, 7, 9, 14, 24], 100);
 }
 
 /// Any table lent, any list, and now and then a wrong crew or a.
@@ -252,14 +262,14 @@ fn random_openings(model: Model) {
         }
         tally.take(&same_opening(random, model, count, homes, &lent, &list));
     }
-    tally.each(&[0, 1, 2, 6, 7, 9, 14, 21], 5);
+    tally.each(&[0, 1, 2, 6, 7, 9, 14, 21, 24], 5);
 }
 
 /// Lists of different lengths, of lines and of replies: behind the shortest nothing is read.
 fn the_shortest_list_decides(model: Model) {
     let random = &mut Rng::new(5);
     let good = [line(0, 8, 3), line(1, 13, 2), line(0, 8, 1)];
-    for more in [line(0, 0, 0), line(9, 5, 1), line(0, 1, 1), line(0, 8, 0)] {
+    for more in [line(0, 0, 0), line(0, u32::MAX, 1), line(9, 5, 1), line(0, 1, 1), line(0, 8, 0)] {
         let all = [good[0], good[1], good[2], more, line(0, 2, 1), line(0, 3, 1), line(0, 4, 1)];
         let all_of = Orders::of(&all);
         for lengths in all_lists(3, &[0, 1, 2, 3, 4, 5, 6, 7]) {
@@ -366,6 +376,16 @@ fn all_small_closings(model: Model) {
         }
     }
     assert!(closed > 80_000, "{closed} rounds");
+}
+
+/// A table that has test numbers: its replies are accepted, others are absent, and what is left is listed.
+fn replies_for_test_numbers(model: Model) {
+    let random = &mut Rng::new(15);
+    let table = cells([u32::MAX, FIRST_TEST_LABEL, 0, 3, 0]);
+    let replies = [reply(0, u32::MAX), reply(1, 4_294_967_290), reply(2, u32::MAX), reply(0, 0), reply(1, u32::MAX), reply(1, FIRST_TEST_LABEL - 1)];
+    let left = same_closing(random, model, 2, Homes::PLAIN, &table, &replies, (7, 4)).expect("a sound table and places enough");
+    assert_eq!(left.answers, [0, 22, 6, 7, 0, 22]);
+    assert_eq!((left.cells, left.out), (cells([FIRST_TEST_LABEL, 0, 0, 3, 0]).to_vec(), cells([FIRST_TEST_LABEL, 3]).to_vec()));
 }
 
 /// Tables as they come back, sound, torn, full or written over, by their own homes and by others, with any replies, and now and then with a
@@ -511,7 +531,7 @@ fn the_greatest_rounds(model: Model) {
     for homes in [Homes::PLAIN, homes(random)] {
         let mut labels = BTreeSet::new();
         while labels.len() < cells - 1 {
-            labels.insert(random.below(u32::MAX as usize) as u32 + 1);
+            labels.insert(shop_label(random));
         }
         let labels = Vec::from_iter(labels);
         let mut list: Vec<Order> = labels.iter().map(|&label| line(0, label, price(random))).collect();

@@ -11,9 +11,9 @@ use std::process::{Command, Output, Stdio};
 use std::thread;
 
 use reference::generate::factory::{self, FITTED, GOLDEN};
-use reference::generate::{homes, price, sheet, styled, Rng, Style};
+use reference::generate::{homes, price, sheet, shop_label, styled, Rng, Style};
 use reference::layout::{label_of, price_of, Homes, MAX_PRICE};
-use reference::phase::{LOOK_UP, TAKE_OUT};
+use reference::phase::{FIRST_TEST_LABEL, LOOK_UP, TAKE_OUT};
 use reference::sheet::replay_bytes;
 
 fn program() -> PathBuf {
@@ -134,7 +134,7 @@ fn stored_sheets() {
     let mut sheets: Vec<PathBuf> = fs::read_dir(folder).expect("the stored sheets").map(|e| e.expect("an entry").path()).collect();
     sheets.retain(|p| p.extension().is_some_and(|e| e == "sheet"));
     sheets.sort();
-    assert!(sheets.len() >= 68, "{} stored sheets", sheets.len());
+    assert!(sheets.len() >= 69, "{} stored sheets", sheets.len());
     for path in sheets {
         let input = fs::read(&path).expect("a sheet");
         let expected = fs::read(path.with_extension("out")).expect("its output");
@@ -234,8 +234,8 @@ fn most_items() {
 #[test]
 fn largest_table() {
     let mut text = Vec::new();
-    put_in(&mut text, 4096, Homes::PLAIN, (0..4095).map(|i| (u32::MAX - i, MAX_PRICE - i)));
-    text.extend(b"list\nlist\nopen\t2\t16\t1\t0\norder\t3\t4294967295\nrun\nclose\nlist\n");
+    put_in(&mut text, 4096, Homes::PLAIN, (0..4095).map(|i| (FIRST_TEST_LABEL - 1 - i, MAX_PRICE - i)));
+    text.extend(b"list\nlist\nopen\t2\t16\t1\t0\norder\t3\t3999999999\nrun\nclose\nlist\n");
     let expected = replay_bytes(&text);
     let longest = expected.split(|&b| b == b'\n').map(<[u8]>::len).max();
     assert!(longest > Some(4095 * "\t4294967295\t9999999".len()), "{longest:?}");
@@ -248,7 +248,7 @@ fn long_output() {
     let random = &mut Rng::new(5);
     let mut text = Vec::new();
     for (cells, keys, lists) in [(4096, 4095, 60), (1000, 700, 300), (300, 40, 5000)] {
-        put_in(&mut text, cells, homes(random), (0..keys).map(|_| (1 + random.below(u32::MAX as usize) as u32, price(random))));
+        put_in(&mut text, cells, homes(random), (0..keys).map(|_| (shop_label(random), price(random))));
         for _ in 0..lists {
             text.extend(b"list\n");
             text.extend(b"turn\t0\n".repeat(random.below(9)));

@@ -8,8 +8,8 @@ use conformance::shifts::{closed, dealt, Entry};
 use conformance::trials::GUARD;
 use conformance::{close, for_both_models, lines_of, read_till, reference_read_till, reference_run, Calls, Orders, MODELS, REFUSED};
 use reference::generate::till::{all_texts, damaged, good, nick, number, written, Quotes, BYTES, PIECES};
-use reference::generate::{homes, price, table, Rng};
-use reference::layout::{content, label_of, layout, Homes, Prices, MAX_PRICE};
+use reference::generate::{homes, is_shop_label, labels_of, price, shop_label, table, Rng};
+use reference::layout::{content, layout, Homes, Prices, MAX_PRICE};
 use reference::model::{Model, GATEWAY, KIOSK};
 use reference::phase::{Order, Phase, PUT_IN};
 
@@ -481,8 +481,12 @@ fn texts_become_tables() {
         let cells = random.within(2, 30);
         let homes = homes(random);
         let table = table(random, homes, cells);
-        let mut known: Vec<u32> = table.iter().map(|&cell| label_of(cell)).filter(|&label| label > 0).collect();
-        while known.is_empty() || known.len() + 1 < cells && !random.once_in(4) {
+        let (mut known, tests): (Vec<u32>, Vec<u32>) = labels_of(&table).into_iter().partition(|&label| is_shop_label(label));
+        let most = cells - 1 - tests.len();
+        if most == 0 {
+            continue;
+        }
+        while known.is_empty() || known.len() < most && !random.once_in(4) {
             let label = random.within(1, 3 * cells) as u32;
             if !known.contains(&label) {
                 known.push(label);
@@ -509,7 +513,7 @@ fn some_tables() {
     {
         let mut set = Prices::new();
         while set.len() < labels {
-            set.insert(random.below(u32::MAX as usize) as u32 + 1, price(random));
+            set.insert(shop_label(random), price(random));
         }
         let mut entries: Vec<Entry> = set.iter().map(|(&label, &price)| (label, price)).collect();
         random.shuffle(&mut entries);
@@ -523,9 +527,18 @@ fn some_tables() {
 fn values_are_checked_at_the_opening(model: Model) {
     let most = model.max_workers as u32;
     let table = [0, content(7, 5), 0];
-    for (text, records, number) in
-        [("0,1", 1, 7), ("7,1\r\n0,0", 2, 7), ("7,0", 1, 14), ("7,10000000", 1, 14), ("7,4294967295\r\n0,1", 2, 14), ("7,1\r\n8,1\r\n9,1", 3, 9)]
-    {
+    for (text, records, number) in [
+        ("0,1", 1, 7),
+        ("7,1\r\n0,0", 2, 7),
+        ("4000000000,0", 1, 24),
+        ("7,1\r\n\"4294967295\",1", 2, 24),
+        ("4000000000,1\r\n0,1", 2, 24),
+        ("7,0", 1, 14),
+        ("3999999999,10000000\r\n4000000000,1", 2, 14),
+        ("7,10000000", 1, 14),
+        ("7,4294967295\r\n0,1", 2, 14),
+        ("7,1\r\n8,1\r\n3999999999,1", 3, 9),
+    ] {
         for crew in [1, 3, most] {
             let orders = orders_of(model, text.as_bytes(), crew, records);
             assert_eq!(opening(model, crew, Homes::PLAIN, &table, &orders), REFUSED + number, "{text:?}");

@@ -19,7 +19,7 @@ use std::collections::BTreeSet;
 
 use crate::layout::{content, label_of, layout, least_prices, Homes, Prices, EMPTY, MAX_PRICE};
 use crate::model::GATEWAY;
-use crate::phase::{Activity, Order, Phase, PUT_IN};
+use crate::phase::{Activity, Order, Phase, FIRST_TEST_LABEL, PUT_IN};
 use crate::refusal;
 
 /// A seeded xorshift generator.
@@ -74,6 +74,25 @@ pub fn price(rng: &mut Rng) -> u32 {
         1 => rng.pick(&[1, MAX_PRICE - 1, MAX_PRICE]),
         _ => rng.within(1, 4) as u32,
     }
+}
+
+/// Any label that a shop may add.
+pub fn shop_label(rng: &mut Rng) -> u32 {
+    rng.within(1, FIRST_TEST_LABEL as usize - 1) as u32
+}
+
+/// A label that is for factory tests: one of the least, of the greatest, or any.
+pub fn test_label(rng: &mut Rng) -> u32 {
+    match rng.below(4) {
+        0 | 1 => FIRST_TEST_LABEL + rng.below(2) as u32,
+        2 => u32::MAX - rng.below(2) as u32,
+        _ => rng.within(FIRST_TEST_LABEL as usize, u32::MAX as usize) as u32,
+    }
+}
+
+/// May a shop add this label?
+pub fn is_shop_label(label: u32) -> bool {
+    (1..FIRST_TEST_LABEL).contains(&label)
 }
 
 /// Prices that no label may have.
@@ -173,6 +192,18 @@ pub fn label_with(Homes { a, b }: Homes, value: u32) -> u32 {
     inverse.wrapping_mul(value.wrapping_sub(b))
 }
 
+/// A label that a shop may add, at home where this value is in so many cells: that
+/// of the value itself, or of one some way on if that is a test number or 0.
+pub fn shop_label_with(homes: Homes, cells: usize, value: u32) -> u32 {
+    let step = u32::MAX as usize / cells / 4099 * cells;
+    let mut labels = (value..=u32::MAX)
+        .step_by(step)
+        .map(|value| label_with(homes, value));
+    labels
+        .find(|&label| is_shop_label(label))
+        .expect("one of some thousand labels")
+}
+
 /// The labels of a table.
 pub fn labels_of(table: &[u64]) -> Vec<u32> {
     let labels = table.iter().map(|&cell| label_of(cell));
@@ -180,11 +211,13 @@ pub fn labels_of(table: &[u64]) -> Vec<u32> {
 }
 
 /// A list of orders for a put-in shift of `crew` workers on a table: its whole
-/// assortment, some of it, or new labels from 1 to `most`, in any order and
-/// with repeats. New ones fill the table often, and now and then overfill it.
+/// assortment but for the test numbers, some of it, or new labels from 1 to
+/// `most`, or as many of the greatest that a shop adds, in any order and with
+/// repeats. New ones fill the table often, and now and then overfill it.
 pub fn orders(rng: &mut Rng, table: &[u64], crew: usize, most: usize) -> Vec<Order> {
     let mut labels = labels_of(table);
     let room = (table.len() - labels.len()).saturating_sub(1);
+    labels.retain(|&label| is_shop_label(label));
     if rng.once_in(4) {
         labels.truncate(rng.below(labels.len() + 1));
     }
@@ -194,7 +227,11 @@ pub fn orders(rng: &mut Rng, table: &[u64], crew: usize, most: usize) -> Vec<Ord
         4 => room + 1,
         _ => rng.below(room + 2),
     };
-    labels.extend((0..new).map(|_| rng.within(1, most) as u32));
+    let great = rng.once_in(8);
+    labels.extend((0..new).map(|_| match rng.within(1, most) as u32 {
+        less if great => FIRST_TEST_LABEL - less,
+        label => label,
+    }));
     if !labels.is_empty() {
         for _ in 0..rng.pick(&[0, 0, 1, 2, 5]) {
             labels.push(rng.pick(&labels));
@@ -214,7 +251,10 @@ pub fn orders(rng: &mut Rng, table: &[u64], crew: usize, most: usize) -> Vec<Ord
 pub fn spoil(rng: &mut Rng, order: &mut Order, crew: usize) {
     let reasons = rng.within(1, 7);
     if reasons & 1 != 0 {
-        order.label = 0;
+        order.label = match rng.once_in(2) {
+            true => 0,
+            false => test_label(rng),
+        };
     }
     if reasons & 2 != 0 {
         order.price = rng.pick(&WRONG_PRICES);
@@ -238,14 +278,14 @@ pub fn all_lists<T: Copy>(length: usize, of: &[T]) -> impl Iterator<Item = Vec<T
 }
 
 /// A sound table, often with one empty cell: the labels are spread, or in steps
-/// of 100, or the greatest, or all at home in a few cells side by side. The a is
-/// odd.
+/// of 100, or the greatest, or around the least test number, or all at home in a
+/// few cells side by side. The a is odd.
 pub fn table(rng: &mut Rng, homes: Homes, cells: usize) -> Vec<u64> {
     let labels = match rng.once_in(3) {
         true => cells - 1,
         false => rng.below(cells),
     };
-    let style = rng.below(4);
+    let style = rng.below(5);
     let (first, side_by_side) = (rng.below(cells), rng.within(1, 8));
     let mut prices = Prices::new();
     while prices.len() < labels {
@@ -253,6 +293,7 @@ pub fn table(rng: &mut Rng, homes: Homes, cells: usize) -> Vec<u64> {
             0 => rng.below(u32::MAX as usize) + 1,
             1 => 100 * rng.within(1, 1 << 25),
             2 => u32::MAX as usize - rng.below(4 * cells),
+            3 => FIRST_TEST_LABEL as usize - 2 * cells + rng.below(4 * cells),
             _ => {
                 let value = cells * rng.within(1, 4 * cells);
                 let home = (first + rng.below(side_by_side)) % cells;
@@ -357,7 +398,7 @@ pub enum Style {
     OneHome,
     /// Labels in steps of 100.
     Hundreds,
-    /// Labels near 4294967295.
+    /// The greatest labels that a shop adds.
     Greatest,
     /// 16 workers on a middling table.
     Sixteen,
@@ -599,7 +640,6 @@ fn plan(rng: &mut Rng, style: Style) -> Chapter {
         true => Homes::PLAIN,
         false => homes(rng),
     };
-    let with = |value: u32| Some(label_with(homes, value)).filter(|&label| label > 0);
     let (cells, most_workers) = match style {
         Style::Crowded => (rng.within(2, 9), 4),
         Style::Wrap => (rng.within(3, 12), 4),
@@ -613,22 +653,26 @@ fn plan(rng: &mut Rng, style: Style) -> Chapter {
         Style::Large => (rng.pick(&[512, 1000, 2048, 3001, 4095, 4096]), 16),
     };
     let n = cells as u32;
+    let with = |value: u32| shop_label_with(homes, cells, value);
     let mut pool: Vec<u32> = match style {
         Style::Crowded => (1..=3 * n).collect(),
         Style::Wrap => (1..=n)
             .flat_map(|turn| [turn * n - 1, turn * n - 2])
-            .filter_map(with)
+            .map(with)
             .collect(),
         Style::OneHome => {
             let home = rng.below(cells) as u32;
             let values = (1..=2 * n).map(|turn| turn * n + home);
-            values.filter_map(with).collect()
+            values.map(with).collect()
         }
         Style::Hundreds => (1..=2 * n).map(|step| step * 100).collect(),
-        Style::Greatest => (0..2 * n).map(|less| u32::MAX - less).chain(1..4).collect(),
+        Style::Greatest => (1..=2 * n)
+            .map(|less| FIRST_TEST_LABEL - less)
+            .chain(1..4)
+            .collect(),
         Style::Sixteen if rng.once_in(2) => (1..=2 * n).collect(),
         Style::Sixteen | Style::Large => {
-            let span = rng.pick(&[2 * n, 5 * n, 1_000_000, u32::MAX]);
+            let span = rng.pick(&[2 * n, 5 * n, 1_000_000, FIRST_TEST_LABEL - 1]);
             (0..2 * n)
                 .map(|_| 1 + (rng.draw() % u64::from(span)) as u32)
                 .collect()
@@ -800,7 +844,11 @@ fn shift(rng: &mut Rng, plan: &Chapter, kind: u32, sheet: &mut Sheet) {
                 continue;
             }
             if kind != PUT_IN {
-                sheet.order(worker, rng.pick(&labels));
+                let label = match rng.once_in(30) {
+                    true => test_label(rng),
+                    false => rng.pick(&labels),
+                };
+                sheet.order(worker, label);
             } else if let Some(place) = places.next() {
                 sheet.place(place);
             } else {

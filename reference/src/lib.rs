@@ -45,4 +45,6 @@ pub mod refusal {
     pub const ABSENT: u8 = 22;
     /// The new table isn't all empty, or has no more cells than there are labels.
     pub const UNFIT: u8 = 23;
+    /// A put-in line's or a sent line's label is for factory tests.
+    pub const TEST_NUMBER: u8 = 24;
 }

@@ -60,6 +60,10 @@ pub enum Answer {
     Idle,
 }
 
+/// Labels from here up are for factory tests: they may stand in a table, but a
+/// shop adds none.
+pub const FIRST_TEST_LABEL: u32 = 4_000_000_000;
+
 /// A line of the list that a put-in shift is opened with.
 #[derive(Clone, Copy, Debug, PartialEq, Eq, Hash)]
 pub struct Order {
@@ -173,11 +177,10 @@ impl Phase {
         if *activity != Idle {
             return Err(refusal::BUSY);
         }
-        if label == 0 {
+        if self.kind == PUT_IN {
+            check_entry(label, price)?;
+        } else if label == 0 {
             return Err(refusal::BLANK);
-        }
-        if self.kind == PUT_IN && !is_price(price) {
-            return Err(refusal::PRICE);
         }
         *activity = ReadingOn {
             entry: content(label, price),
@@ -251,17 +254,26 @@ impl Phase {
 impl Order {
     /// What the opening of a shift with `count` workers checks of a line.
     fn check(&self, count: u64) -> Result<(), u8> {
-        if self.label == 0 {
-            return Err(refusal::BLANK);
-        }
-        if !is_price(self.price) {
-            return Err(refusal::PRICE);
-        }
+        check_entry(self.label, self.price)?;
         if u64::from(self.worker) >= count {
             return Err(refusal::NO_WORKER);
         }
         Ok(())
     }
+}
+
+/// What opening and order of a put-in shift check of a label and its price.
+fn check_entry(label: u32, price: u32) -> Result<(), u8> {
+    if label == 0 {
+        return Err(refusal::BLANK);
+    }
+    if label >= FIRST_TEST_LABEL {
+        return Err(refusal::TEST_NUMBER);
+    }
+    if !is_price(price) {
+        return Err(refusal::PRICE);
+    }
+    Ok(())
 }
 
 /// The number of labels of table and list together, each counted once.

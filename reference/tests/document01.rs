@@ -168,6 +168,20 @@ fn greatest_label() {
         layout(Homes::PLAIN, 5, &set(&[4294967295])),
         cells([4294967295, 0, 0, 0, 0])
     );
+    // Document 02: it is met at opening, and no shift puts it in.
+    let met = cells([4294967295, 0, 0, 0, 0]);
+    let mut table = met;
+    shift(PUT_IN, &mut table, &[5, 3999999999]);
+    assert_eq!(table, cells([4294967295, 5, 0, 0, 3999999999]));
+    let answers = shift(LOOK_UP, &mut table, &[4294967295, 4294967290]);
+    assert_eq!(answers, [Answer::Price(1), Answer::No]);
+    shift(TAKE_OUT, &mut table, &[4294967295]);
+    assert_eq!(table, cells([5, 0, 0, 0, 3999999999]));
+    for table in [met, [0; 5]] {
+        let list = list_of(&[4294967295]);
+        let answer = Phase::open(GATEWAY, 1, 1, Homes::PLAIN, &table, &list);
+        assert_eq!(answer, Err(24));
+    }
 }
 
 #[test]
@@ -729,8 +743,8 @@ fn ends_of_input() {
 fn run_fields() {
     assert_eq!(
         replay(
-            "cells 5\nitem 1 4294967295 1\nopen 1 3 1 0\nrun\norder 0\nrun\nclose\nopen 3 3 1 0\norder 0 5\n\
-             order 2 4294967295\nrun\nrun\n"
+            "cells 5\nitem 1 3999999999 1\nopen 1 3 1 0\nrun\norder 0\nrun\nclose\nopen 3 3 1 0\norder 0 5\n\
+             order 2 3999999999\nrun\nrun\n"
         ),
         "1 ok\n2 ok\n3 ok\n4 - - -\n5 ok\n6 - done -\n7 ok\n8 ok\n9 ok\n10 ok\n\
          11 no - 1\n12 - - -\n"

@@ -75,7 +75,7 @@ fn openings_refuse_in_order() {
     assert_eq!(opens(1, &table, &full), Err(9));
 }
 
-/// Each line for 7, 14 and then 6, the earliest line deciding.
+/// Each line for 7, 14 and then 6 (24 behind 7: point 10), the earliest line deciding.
 #[test]
 fn the_earliest_bad_line_decides() {
     let bad = [
@@ -99,7 +99,7 @@ fn the_earliest_bad_line_decides() {
 /// by a set; bad lines at random places.
 #[test]
 fn random_openings() {
-    let mut answers = [0; 17];
+    let mut answers = [0; 25];
     for seed in 0..40_000 {
         let rng = &mut Rng::new(seed);
         let n = rng.within(2, 12);
@@ -122,6 +122,10 @@ fn random_openings() {
         }
         let faults = list.iter().map(|order| match *order {
             Order { label: 0, .. } => 7,
+            Order {
+                label: 4_000_000_000..,
+                ..
+            } => 24,
             Order { price: 0, .. } => 14,
             Order { price, .. } if price > 9_999_999 => 14,
             Order { worker, .. } if worker as usize >= crew => 6,
@@ -137,7 +141,7 @@ fn random_openings() {
         assert_eq!(answer.map_or_else(|number| number, |_| 0), expected);
         answers[expected as usize] += 1;
     }
-    for number in [0, 6, 7, 9, 14] {
+    for number in [0, 6, 7, 9, 14, 24] {
         assert!(answers[number] > 500, "{number}: {answers:?}");
     }
 }
@@ -148,7 +152,7 @@ fn two_cells_with_7() {
     for list in [&[][..], &[order(0, 7, 1)], &[order(0, 7, 9); 3]] {
         assert_eq!(opens(1, &table, list), Ok(()));
     }
-    for label in [1, 2, 6, 8, u32::MAX] {
+    for label in [1, 2, 6, 8, 3_999_999_999] {
         assert_eq!(opens(1, &table, &[order(0, label, 1)]), Err(9));
         let both = [order(0, 7, 1), order(0, label, 1)];
         assert_eq!(opens(1, &table, &both), Err(9));
@@ -259,7 +263,7 @@ fn other_kinds_read_no_list() {
 
 // ---- order
 
-/// 13, 11, 15, 6, 8, 7, 14; all that can be due later are. The worker and the
+/// 13, 11, 15, 6, 8, 7, 14 (24 behind 7: point 10); all that can be due later are. The worker and the
 /// label handed in aren't read.
 #[test]
 fn order_refuses_in_order() {
@@ -471,9 +475,10 @@ fn items_of_any_numbers() {
     for (item, answer) in [
         ("item 0 0 0", "refused 7"),
         ("item 4294967295 0 4294967295", "refused 7"),
-        ("item 4294967295 4294967295 4294967295", "refused 14"),
-        ("item 4294967295 4294967295 9999999", "refused 6"),
-        ("item 0 4294967295 9999999", "ok"),
+        ("item 4294967295 4294967295 4294967295", "refused 24"),
+        ("item 4294967295 3999999999 4294967295", "refused 14"),
+        ("item 4294967295 3999999999 9999999", "refused 6"),
+        ("item 0 3999999999 9999999", "ok"),
     ] {
         let printed = replay(&format!("{item}\ncells 5\nopen 1 1 1 0\n"));
         assert_eq!(printed, format!("1 ok\n2 ok\n3 {answer}\n"));

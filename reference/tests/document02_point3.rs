@@ -291,7 +291,7 @@ fn torn_images() {
 
 // ---- "both in the place of 4"
 
-/// 1, 2, 3 and 16 come before; 7, 14, 6 and 9 behind.
+/// 1, 2, 3 and 16 come before; 7, 24, 14, 6 and 9 behind.
 #[test]
 fn openings_refuse_in_order() {
     let long = vec![order(9, 0, 0); 65_537];
@@ -330,13 +330,14 @@ fn openings_refuse_in_order() {
         // Bad lines, and more labels than the table has room for.
         let lists = [
             vec![order(0, 0, 1)],
+            vec![order(0, 4_000_000_000, 1)],
             vec![order(0, 5, 0)],
             vec![order(1, 5, 1)],
             vec![order(9, 0, 0); 65_536],
             (1..9).map(|label| order(0, label, 1)).collect(),
         ];
         let alone = |list| Phase::open(GATEWAY, 1, 1, Homes::PLAIN, &[0; 3], list).map(|_| ());
-        let numbers = [7, 14, 6, 7, 9];
+        let numbers = [7, 24, 14, 6, 7, 9];
         for (list, behind) in lists.iter().zip(numbers) {
             assert_eq!(alone(list), Err(behind));
             assert_eq!(

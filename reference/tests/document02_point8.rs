@@ -5,7 +5,7 @@ use std::collections::{BTreeMap, BTreeSet};
 use reference::generate::round::replies;
 use reference::generate::{
     all_lists, even_homes, homes, labels_of, later, orders, other_homes, overwrite, price,
-    returned, spoil, table, Rng,
+    returned, shop_label, spoil, table, Rng,
 };
 use reference::layout::{content, is_sound, label_of, layout, price_of, soundness, Homes};
 use reference::model::{Model, GATEWAY, KIOSK};
@@ -128,6 +128,10 @@ fn fault_at_opening(model: Model, count: u64, homes: Homes, cells: usize, sent: 
     }
     let of_line = |line: &Order| match *line {
         Order { label: 0, .. } => 7,
+        Order {
+            label: 4_000_000_000..,
+            ..
+        } => 24,
         Order {
             price: 0 | 10_000_000..,
             ..
@@ -378,7 +382,7 @@ fn random_openings() {
         assert_eq!(answer, expected, "seed {seed}");
     }
     let numbers: Vec<u8> = seen.keys().copied().collect();
-    assert_eq!(numbers, [0, 1, 2, 6, 7, 9, 14, 21], "{seen:?}");
+    assert_eq!(numbers, [0, 1, 2, 6, 7, 9, 14, 21, 24], "{seen:?}");
     assert!(seen.values().all(|&often| often > 20), "{seen:?}");
     assert!(seen[&0] > 15_000, "{seen:?}");
 }
@@ -590,7 +594,7 @@ fn the_greatest_rounds() {
             let rng = &mut Rng::new(most_cells as u64);
             let mut labels = BTreeSet::new();
             while labels.len() < most_cells - 1 {
-                labels.insert(rng.below(u32::MAX as usize) as u32 + 1);
+                labels.insert(shop_label(rng));
             }
             let labels: Vec<u32> = labels.into_iter().collect();
             let worker = |i: usize| (i as u64 % most_workers) as u32;

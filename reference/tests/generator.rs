@@ -43,6 +43,7 @@ fn opening(
     let fault = items.iter().find_map(|&(worker, label, price)| {
         let faults = [
             (label == 0, 7),
+            (label >= 4_000_000_000, 24),
             (!(1..=9_999_999).contains(&price), 14),
             (worker >= count, 6),
         ];
@@ -209,7 +210,7 @@ fn sheets_reach_everything() {
     }
     // 4, 5, 12, 13 and 16 can't come from a sheet; 17 and 18 come by an opening
     // with other homes, and by a list while a take-out is at work.
-    for number in [1, 2, 3, 6, 7, 8, 9, 10, 11, 14, 15, 17, 18, 21] {
+    for number in [1, 2, 3, 6, 7, 8, 9, 10, 11, 14, 15, 17, 18, 21, 24] {
         let word = format!("refused {number}");
         assert!(words.get(&word).is_some_and(|&n| n > 30), "{word}");
     }

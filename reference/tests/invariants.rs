@@ -2,12 +2,14 @@
 
 use std::collections::HashMap;
 
-use reference::generate::{all_lists, even_homes, homes, label_with, other_homes, price, Rng};
+use reference::generate::{all_lists, even_homes, homes, other_homes, price, shop_label_with, Rng};
 use reference::layout::{
     content, is_sound, label_of, layout, least_prices, soundness, way_is_greater, Homes, Prices,
 };
 use reference::model::GATEWAY;
-use reference::phase::{Activity, Answer, Order, Phase, LOOK_UP, PUT_IN, TAKE_OUT};
+use reference::phase::{
+    Activity, Answer, Order, Phase, FIRST_TEST_LABEL, LOOK_UP, PUT_IN, TAKE_OUT,
+};
 
 fn prices(table: &[u64]) -> Prices {
     least_prices(table.iter().copied())
@@ -148,11 +150,11 @@ fn random_shifts() {
         let mut homes = first_homes;
         let label = |rng: &mut Rng| match style {
             0 => rng.within(1, 3 * n) as u32,
-            1 => u32::MAX - rng.below(3 * n) as u32,
+            1 => FIRST_TEST_LABEL - rng.within(1, 3 * n) as u32,
             2 => 100 * rng.within(1, 2 * n) as u32,
             _ => {
                 let value = rng.within(1, 2 * n) as u32 * n as u32 + home;
-                label_with(first_homes, value).max(1)
+                shop_label_with(first_homes, n, value)
             }
         };
         let mut table = vec![0; n];

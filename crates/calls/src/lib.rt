@@ -9,6 +9,7 @@ use formed::numbers_ok;
 use formed::worker_ok;
 use homes::Hash;
 use lent::line_at;
+use orders::FIRST_TEST;
 use orders::Found;
 use orders::Order;
 use prices::HIGHEST;
@@ -35,7 +36,7 @@ ghost use Rattle.prices.specs.Contents.{label, priceOk};
 ghost use Rattle.activities.specs.Activities.{activityOk};
 ghost use Rattle.state.specs.Model.{gateway, modelOf};
 ghost use Rattle.state.specs.Refusals.{firstOf};
-ghost use Rattle.protocol.specs.Bars.{mispriced, workerBars};
+ghost use Rattle.protocol.specs.Bars.{addsTest, mispriced, workerBars};
 ghost use Rattle.protocol.specs.Calls.{entryFor, closeCall, orderFound, orderCall, turnCall, turnTable};
 ghost use Rattle.protocol.specs.Split.{oneOrder, oneTurn, oneTable};
 ghost use Rattle.calls.specs.Asking.{askedFor};
@@ -102,6 +103,13 @@ pub fn asked_for(kind: u32, found: Found, worker: usize, key: u32) -> Asked
     }
 }
 
+// Whether the order would put in a key for factory tests: in the other kinds it is a key like any other.
+fn adds_test(kind: u32, key: u32) -> bool
+    ensures { λ r. ⌜ r ≡ addsTest kind key ⌝ }
+{
+    if kind == 1 { FIRST_TEST <= key } else { false }
+}
+
 // Whether a price may be kept with a key: from 1 to 9,999,999.
 fn price_ok(price: u32) -> bool
     ensures { λ r. ⌜ r ≡ priceOk price ⌝ }
@@ -140,6 +148,9 @@ fn one_reply(kind: u32, activity: Activity, key: u32, price: u32) -> Reply
     }
     if key == 0 {
         return Reply::Refused(Refusal::Blank);
+    }
+    if adds_test(kind, key) {
+        return Reply::Refused(Refusal::TestNumber);
     }
     if is_mispriced(kind, price) {
         return Reply::Refused(Refusal::WrongPrice);

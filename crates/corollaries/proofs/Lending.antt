@@ -11,7 +11,7 @@ use Rattle.prices.specs.Contents.{content}
 use Rattle.orders.specs.Orders.{orderWith, blank, lineFault, linesFault}
 use Rattle.orders.specs.declared.Order.{Order}
 use Rattle.rule.specs.Schedules.{ones}
-use Rattle.protocol.specs.Lines.{Priced, Good, Earliest, Fills}
+use Rattle.protocol.specs.Lines.{Priced, ShopKey, Good, Earliest, Fills}
 use Rattle.protocol.proofs.Lines.{blank-first, fills-says}
 use Rattle.history.specs.Promise.{OfLine}
 use Rattle.corollaries.specs.Corollaries.{priceItems, workerBeforeBlank}
@@ -20,15 +20,15 @@ use Rattle.corollaries.proofs.Members.{apart}
 
 -- ---- good lines
 pub five-good : (w : ℕ) → w < 2 → Good 2 (orderWith 5 1 w)
-five-good w l = record { key = apart 5 0 tt; price = (omega arith, omega arith); worker = l }
+five-good w l = record { key = apart 5 0 tt; shop = omega arith; price = (omega arith, omega arith); worker = l }
 
 -- ---- the earliest line
-pub worker-earliest : Earliest 2 workerBeforeBlank (λ (o : Order). (o .key ≢ 0) × Priced (o .price) × (2 ≤ o .worker))
+pub worker-earliest : Earliest 2 workerBeforeBlank (λ (o : Order). (o .key ≢ 0) × ShopKey (o .key) × Priced (o .price) × (2 ≤ o .worker))
 worker-earliest = record {
   line = 0;
   inside = omega arith;
   before = λ j l. absurd (omega arith);
-  decides = (apart 5 0 tt, (omega arith, omega arith), omega arith);
+  decides = (apart 5 0 tt, omega arith, (omega arith, omega arith), omega arith);
 }
 
 pub blank-behind : Earliest 2 (orderWith 5 1 1 ∷ orderWith 0 1 0 ∷ []) (λ (o : Order). o .key ≡ 0)

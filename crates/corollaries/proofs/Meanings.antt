@@ -57,8 +57,9 @@ meanings = record {
   wrong-before = λ r. absurd (r .2 .1 7 .1 three .0);
   room = omega arith;
   good = five-good 1 (omega arith);
-  good-dearest = record { key = apart 4294967295 0 tt; price = (omega arith, omega arith); worker = omega arith };
+  good-dearest = record { key = apart 3999999999 0 tt; shop = omega arith; price = (omega arith, omega arith); worker = omega arith };
   not-blank = λ g. g .key refl;
+  not-for-tests = λ g. omega (arith, g .shop);
   not-free = λ g. omega (arith, g .price .0);
   not-too-dear = λ g. omega (arith, g .price .1);
   not-workless = λ g. omega (arith, g .worker);
@@ -72,6 +73,10 @@ meanings = record {
   not-at-two-prices = seven-once .1;
   not-twice = four-once .0;
   not-zero = four-once .1;
+  test-taken-out = record { key = apart 4294967295 0 tt; shop = λ is. omega arith; priced = λ is. omega arith; unpriced = λ _. refl };
+  test-looked-up = record { key = apart 4000000000 0 tt; shop = λ is. omega arith; priced = λ is. omega arith; unpriced = λ _. refl };
+  test-not-put-in = λ a. omega (arith, a .shop refl);
+  shop-put-in = record { key = apart 3999999999 0 tt; shop = λ _. omega arith; priced = λ _. (omega arith, omega arith); unpriced = λ ne. absurd (ne refl) };
   of-line = record { line = 1; inside = omega arith; is = refl; costs = refl };
   not-mixed = not-mixed;
   not-listed = not-listed;

@@ -6,7 +6,7 @@ use mathlib.Core.List.{List, [], _∷_, _++_}
 use Prim.Native.Nat.{ℕ, zero, suc, _≤_, _<_}
 use native.Mathlib.Omega.{arith}
 use lib.ListN.{length, getD, replicate, length-replicate}
-use borrow.Author.Tests.{eqb-true, ne-eqb, leb-true}
+use borrow.Author.Tests.{eqb-true, ne-eqb, leb-true, lt-leb}
 use Rattle.ring.specs.Ring.{wrap, probe, dist}
 use Rattle.ring.proofs.Split.{by-eq}
 use Rattle.layout.specs.Layout.{In, into, descending, size}
@@ -34,14 +34,14 @@ use Rattle.protocol.specs.Bars.{doing}
 use Rattle.protocol.specs.Calls.{turnNumber, withWorker, closeCall, orderCall, turnCall, turnTable}
 use Rattle.protocol.specs.Cases.{Decides}
 use Rattle.protocol.specs.IsWellFormed.{isWellFormed}
-use Rattle.protocol.specs.Lines.{Priced, Mispriced, Earliest, Fills}
+use Rattle.protocol.specs.Lines.{Priced, Mispriced, ShopKey, TestKey, Earliest, Fills}
 use Rattle.protocol.specs.Promise.{Made, opened, ordered as madeByOrder, turned, closed, Soundness, Resting, lineOrderCases, Starts, Replaces}
 use Rattle.protocol.specs.Split.{oneTurn, oneTable, SplitTurn, SplitOrder}
 use Rattle.protocol.specs.WellFormed.{Size, Crew, WellFormed}
 use Rattle.protocol.specs.declared.Moved.{Moved}
 use Rattle.protocol.specs.declared.TurnReply.the-variants.{Answered}
 use Rattle.protocol.proofs.Keeping.{places, each-never-spoilt}
-use Rattle.protocol.proofs.Lines.{blank-first, price-first, worker-first, fills-says}
+use Rattle.protocol.proofs.Lines.{blank-first, test-first, price-first, worker-first, fills-says}
 use Rattle.protocol.proofs.Soundness.{sounds}
 use Rattle.protocol.proofs.Split.{splits}
 use Rattle.protocol.proofs.Theorem.{well-formed, opens, orders, turns, closes}
@@ -74,10 +74,13 @@ module _ (m : ℕ) (os : List Order) (r : ℕ) (e : linesFault m os ≡ r) where
   not-blank : r ≢ 7 → Earliest m os (λ (o : Order). o .key ≡ 0) → ⊥
   not-blank ne h = ne (sym e ∙ eqb-true (linesFault m os) 7 (blank-first m os .1 h))
 
-  not-priceless : r ≢ 14 → Earliest m os (λ (o : Order). (o .key ≢ 0) × Mispriced (o .price)) → ⊥
+  not-testing : r ≢ 24 → Earliest m os (λ (o : Order). TestKey (o .key)) → ⊥
+  not-testing ne h = ne (sym e ∙ eqb-true (linesFault m os) 24 (test-first m os .1 h))
+
+  not-priceless : r ≢ 14 → Earliest m os (λ (o : Order). (o .key ≢ 0) × ShopKey (o .key) × Mispriced (o .price)) → ⊥
   not-priceless ne h = ne (sym e ∙ eqb-true (linesFault m os) 14 (price-first m os .1 h))
 
-  not-workless : r ≢ 6 → Earliest m os (λ (o : Order). (o .key ≢ 0) × Priced (o .price) × (m ≤ o .worker)) → ⊥
+  not-workless : r ≢ 6 → Earliest m os (λ (o : Order). (o .key ≢ 0) × ShopKey (o .key) × Priced (o .price) × (m ≤ o .worker)) → ⊥
   not-workless ne h = ne (sym e ∙ eqb-true (linesFault m os) 6 (worker-first m os .1 h))
 
 -- on a table that opens, with good lines: the labels alone decide
@@ -85,21 +88,23 @@ module _ (m : ℕ) (t : List ℕ) (os : List Order) (cells : Size gateway (lengt
     (sound : Soundness gateway plain t) (good : linesFault m os ≡ 0) where
   fits : (Fills t os → ⊥) → replyNumber (openCall gateway 1 m plain t os .reply) ≡ 0
   fits fewer =
-      let (_, (_, (_, (_, (_, (_, (_, (_, (_, (_, (_, (_, none)))))))))))) = opens gateway 1 m plain t os .inserts refl in
+      let (_, (_, (_, (_, (_, (_, (_, (_, (_, (_, (_, (_, (_, none))))))))))))) = opens gateway 1 m plain t os .inserts refl in
       let (whole, gapless, ordered) = sounds .kinds gateway gateway-proper plain t .0 sound in
       let a = not-blank m os 0 good (λ z. omega arith) in
+      let f = not-testing m os 0 good (λ z. omega arith) in
       let b = not-priceless m os 0 good (λ z. omega arith) in
       let c = not-workless m os 0 good (λ z. omega arith) in
-      none .1 ((((((((((((tt, cells), crew), (omega arith, omega arith)), plain-odd), few), whole), gapless), ordered), a), b), c), fewer)
+      none .1 (((((((((((((tt, cells), crew), (omega arith, omega arith)), plain-odd), few), whole), gapless), ordered), a), f), b), c), fewer)
 
   overflows : Fills t os → replyNumber (openCall gateway 1 m plain t os .reply) ≡ 9
   overflows fills =
-      let (_, (_, (_, (_, (_, (_, (_, (_, (_, (_, (_, (nine, _)))))))))))) = opens gateway 1 m plain t os .inserts refl in
+      let (_, (_, (_, (_, (_, (_, (_, (_, (_, (_, (_, (_, (nine, _))))))))))))) = opens gateway 1 m plain t os .inserts refl in
       let (whole, gapless, ordered) = sounds .kinds gateway gateway-proper plain t .0 sound in
       let a = not-blank m os 0 good (λ z. omega arith) in
+      let f = not-testing m os 0 good (λ z. omega arith) in
       let b = not-priceless m os 0 good (λ z. omega arith) in
       let c = not-workless m os 0 good (λ z. omega arith) in
-      nine .1 ((((((((((((tt, cells), crew), (omega arith, omega arith)), plain-odd), few), whole), gapless), ordered), a), b), c), fills)
+      nine .1 (((((((((((((tt, cells), crew), (omega arith, omega arith)), plain-odd), few), whole), gapless), ordered), a), f), b), c), fills)
 
 five-cells : Size gateway 5
 five-cells = (omega arith, omega arith)
@@ -119,18 +124,18 @@ five-sound : Soundness gateway plain (emptyCells 5)
 unfolding meetsEmpty meetsKey first all some dist probe wrap
 five-sound = sounds .words gateway plain (emptyCells 5) .0 (sound-says plain (emptyCells 5) .0 tt)
 
-good-line : (l : ℕ) → l ≢ 0 → linesFault 1 (oneLine l 1 0) ≡ 0
+good-line : (l : ℕ) → l ≢ 0 → ShopKey l → linesFault 1 (oneLine l 1 0) ≡ 0
 unfolding lineFault linesFault
-good-line l nz = rw (ne-eqb l 0 nz)
+good-line l nz shop = rw (ne-eqb l 0 nz, lt-leb 4000000000 l shop)
 
 seven-fits : replyNumber (openCall gateway 1 1 plain (ones (0 ∷ 7 ∷ [])) (oneLine 7 1 0) .reply) ≡ 0
 seven-fits =
-    fits 1 (ones (0 ∷ 7 ∷ [])) (oneLine 7 1 0) (omega arith, omega arith) (omega arith, omega arith) (omega arith) seven-sound (good-line 7 (apart 7 0 tt))
+    fits 1 (ones (0 ∷ 7 ∷ [])) (oneLine 7 1 0) (omega arith, omega arith) (omega arith, omega arith) (omega arith) seven-sound (good-line 7 (apart 7 0 tt) (omega arith))
     (seven-once .0)
 
 four-overflows : replyNumber (openCall gateway 1 1 plain (ones (0 ∷ 7 ∷ [])) (oneLine 4 1 0) .reply) ≡ 9
 four-overflows =
-    overflows 1 (ones (0 ∷ 7 ∷ [])) (oneLine 4 1 0) (omega arith, omega arith) (omega arith, omega arith) (omega arith) seven-sound (good-line 4 (apart 4 0 tt))
+    overflows 1 (ones (0 ∷ 7 ∷ [])) (oneLine 4 1 0) (omega arith, omega arith) (omega arith, omega arith) (omega arith) seven-sound (good-line 4 (apart 4 0 tt) (omega arith))
     four-fills
 
 -- a worker that the crew lacks, in the first line
@@ -141,12 +146,13 @@ worker-lacks = refl
 worker-decides : replyNumber (openCall gateway 1 2 plain (emptyCells 5) workerBeforeBlank .reply) ≡ 6
 worker-decides =
     let os = workerBeforeBlank in
-    let (_, (_, (_, (_, (_, (_, (_, (_, (_, (_, (six, _))))))))))) = opens gateway 1 2 plain (emptyCells 5) os .inserts refl in
+    let (_, (_, (_, (_, (_, (_, (_, (_, (_, (_, (_, (six, _)))))))))))) = opens gateway 1 2 plain (emptyCells 5) os .inserts refl in
     let (whole, gapless, ordered) = sounds .kinds gateway gateway-proper plain (emptyCells 5) .0 five-sound in
     let a = not-blank 2 os 6 worker-lacks (λ z. omega arith) in
+    let f = not-testing 2 os 6 worker-lacks (λ z. omega arith) in
     let b = not-priceless 2 os 6 worker-lacks (λ z. omega arith) in
     six .1
-    (((((((((((tt, five-cells), two-workers), (omega arith, omega arith)), plain-odd), omega arith), whole), gapless), ordered), a), b), worker-earliest)
+    ((((((((((((tt, five-cells), two-workers), (omega arith, omega arith)), plain-odd), omega arith), whole), gapless), ordered), a), f), b), worker-earliest)
 
 -- ---- tables that are not sound
 gap-opens : replyNumber (openCall gateway 1 2 plain gapped wrongLines .reply) ≡ 17
@@ -234,13 +240,25 @@ module _ (v cents : ℕ) where
 
 mispriced : (cents : ℕ) → (cents ≡ 0) ⊎ (9999999 < cents) → replyNumber (firstLine (oneLine 3 cents 0) .reply) ≡ 14
 mispriced cents wrong =
-    let (_, (_, (_, (_, (_, (_, (fourteen, _))))))) = line-decides 3 cents in
-    fourteen .1 (((((((tt, opened-formed), rests .shut), omega arith), first-worker), rests .rest 0), apart 3 0 tt), wrong)
+    let (_, (_, (_, (_, (_, (_, (_, (fourteen, _)))))))) = line-decides 3 cents in
+    fourteen .1 ((((((((tt, opened-formed), rests .shut), omega arith), first-worker), rests .rest 0), apart 3 0 tt), omega arith), wrong)
 
 dearest : replyNumber (firstLine (oneLine 3 9999999 0) .reply) ≡ 0
 dearest =
-    let (_, (_, (_, (_, (_, (_, (_, none))))))) = line-decides 3 9999999 in
-    none .1 (((((((tt, opened-formed), rests .shut), omega arith), first-worker), rests .rest 0), apart 3 0 tt), (omega arith, omega arith))
+    let (_, (_, (_, (_, (_, (_, (_, (_, none)))))))) = line-decides 3 9999999 in
+    none .1 ((((((((tt, opened-formed), rests .shut), omega arith), first-worker), rests .rest 0), apart 3 0 tt), omega arith), (omega arith, omega arith))
+
+-- a label for factory tests, at any price
+testing : (v cents : ℕ) → TestKey v → replyNumber (firstLine (oneLine v cents 0) .reply) ≡ 24
+testing v cents test =
+    let (_, (_, (_, (_, (_, (_, (n, _))))))) = line-decides v cents in
+    n .1 (((((((tt, opened-formed), rests .shut), omega arith), first-worker), rests .rest 0), λ z. omega arith), test)
+
+-- and the last that a shop adds
+last-shop : replyNumber (firstLine (oneLine 3999999999 1 0) .reply) ≡ 0
+last-shop =
+    let (_, (_, (_, (_, (_, (_, (_, (_, none)))))))) = line-decides 3999999999 1 in
+    none .1 ((((((((tt, opened-formed), rests .shut), omega arith), first-worker), rests .rest 0), apart 3999999999 0 tt), omega arith), (omega arith, omega arith))
 
 blank-line : replyNumber (firstLine (oneLine 0 0 0) .reply) ≡ 7
 blank-line =
@@ -359,6 +377,10 @@ call-corollaries =
       too-dear = mispriced 10000000 (inr (omega arith));
       blank-first = blank-line;
       dearest = dearest;
+      first-test = testing 4000000000 0 (omega arith);
+      last-test = testing 4294967295 1 (omega arith);
+      last-shop = last-shop;
+      test-keeps = orders gateway justOpened (oneLine 4000000000 1 0) 0 0 0 .refused (λ z. let e = testing 4000000000 1 (omega arith) in omega (arith, z, e));
       mispriced-keeps =
           orders gateway justOpened (oneLine 3 0 0) 0 0 0 .refused (λ z. let e = mispriced 0 (inl refl) in omega (arith, z, e));
       insert-unread = orders gateway justOpened sheetItems 1 0 13 .insert-unread (rests .kind) 9 0;

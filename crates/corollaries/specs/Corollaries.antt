@@ -391,6 +391,11 @@ pub record CallCorollaries : Type 0 where
   pub blank-first : replyNumber (firstLine (oneLine 0 0 0) .reply) ≡ 7
   pub dearest : replyNumber (firstLine (oneLine 3 9999999 0) .reply) ≡ 0
   pub mispriced-keeps : firstLine (oneLine 3 0 0) .phase ≡ justOpened
+  -- a label for factory tests gets 24, before 14; the last that a shop adds is accepted
+  pub first-test : replyNumber (firstLine (oneLine 4000000000 0 0) .reply) ≡ 24
+  pub last-test : replyNumber (firstLine (oneLine 4294967295 1 0) .reply) ≡ 24
+  pub last-shop : replyNumber (firstLine (oneLine 3999999999 1 0) .reply) ≡ 0
+  pub test-keeps : firstLine (oneLine 4000000000 1 0) .phase ≡ justOpened
   -- a put-in shift reads neither worker nor label handed in, the other kinds neither list nor line number
   pub insert-unread : orderCall gateway justOpened sheetItems 1 9 0 ≡ orderCall gateway justOpened sheetItems 1 0 13
   pub unread : replyNumber (orderCall gateway fewWorkers [] 7 0 9 .reply) ≡ 0

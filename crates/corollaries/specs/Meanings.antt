@@ -13,8 +13,8 @@ use Rattle.orders.specs.declared.Order.{Order}
 use Rattle.rule.specs.Events.{after, order}
 use Rattle.rule.specs.Schedules.{ones}
 use Rattle.phases.specs.Promise.{Right, Roomy, SameOrders}
-use Rattle.protocol.specs.Lines.{Priced, Good, Earliest, Fills}
-use Rattle.history.specs.Promise.{OfLine}
+use Rattle.protocol.specs.Lines.{Priced, ShopKey, Good, Earliest, Fills}
+use Rattle.history.specs.Promise.{Acceptable, OfLine}
 use Rattle.examples.specs.Examples.{atPrices}
 use Rattle.corollaries.specs.Corollaries.{priceItems, workerBeforeBlank}
 use Rattle.examples.specs.Orders.{oneLine, atOnes}
@@ -33,15 +33,16 @@ pub record Meanings : Type 0 where
       (record { wanted = content 8 0; found = true; price = 9 } ∷ record { wanted = content 3 0; found = false; price = 0 } ∷ []) → ⊥
   -- room: each label is counted once, at however many prices
   pub room : Roomy 2 label (0 ∷ 0 ∷ []) (after 1 2 2 label (spread plain 2) (0 ∷ 0 ∷ []) (order 0 (content 8 5) ∷ order 1 (content 8 3) ∷ []))
-  -- a good line: a label, a price from 1 to 9,999,999, a worker below the count
+  -- a good line: a label below 4,000,000,000, a price from 1 to 9,999,999, a worker below the count
   pub good : Good 2 (orderWith 5 1 1)
-  pub good-dearest : Good 2 (orderWith 4294967295 9999999 0)
+  pub good-dearest : Good 2 (orderWith 3999999999 9999999 0)
   pub not-blank : Good 2 (orderWith 0 1 1) → ⊥
+  pub not-for-tests : Good 2 (orderWith 4000000000 1 1) → ⊥
   pub not-free : Good 2 (orderWith 5 0 1) → ⊥
   pub not-too-dear : Good 2 (orderWith 5 10000000 1) → ⊥
   pub not-workless : Good 2 (orderWith 5 1 2) → ⊥
   -- the earliest line that is not good: a worker in line 0 before the label in line 1; behind good lines as well
-  pub earliest : Earliest 2 workerBeforeBlank (λ (o : Order). (o .key ≢ 0) × Priced (o .price) × (2 ≤ o .worker))
+  pub earliest : Earliest 2 workerBeforeBlank (λ (o : Order). (o .key ≢ 0) × ShopKey (o .key) × Priced (o .price) × (2 ≤ o .worker))
   pub not-later : Earliest 2 workerBeforeBlank (λ (o : Order). o .key ≡ 0) → ⊥
   pub behind-good : Earliest 2 (orderWith 5 1 1 ∷ orderWith 0 1 0 ∷ []) (λ (o : Order). o .key ≡ 0)
   pub none-bad : Earliest 2 (orderWith 5 1 1 ∷ orderWith 6 1 0 ∷ []) (λ (o : Order). o .key ≡ 0) → ⊥
@@ -52,6 +53,11 @@ pub record Meanings : Type 0 where
   pub not-at-two-prices : Fills (ones (0 ∷ 7 ∷ [])) (orderWith 7 9 0 ∷ orderWith 7 1 1 ∷ []) → ⊥
   pub not-twice : Fills (0 ∷ 0 ∷ []) (orderWith 4 1 0 ∷ orderWith 4 3 1 ∷ []) → ⊥
   pub not-zero : Fills (0 ∷ 0 ∷ []) (atOnes (4 ∷ 0 ∷ [])) → ⊥
+  -- what may be ordered: a label for factory tests may be taken out and looked up, and not put in
+  pub test-taken-out : Acceptable 2 (content 4294967295 0)
+  pub test-looked-up : Acceptable 3 (content 4000000000 0)
+  pub test-not-put-in : Acceptable 1 (content 4000000000 1) → ⊥
+  pub shop-put-in : Acceptable 1 (content 3999999999 1)
   -- of a line: the label and the price of one and the same line
   pub of-line : OfLine priceItems (content 8 3)
   pub not-mixed : OfLine priceItems (content 8 7) → ⊥

@@ -14,7 +14,7 @@ use Rattle.phases.specs.Promise.{Roomy}
 use Rattle.rule.specs.Events as events
 use Rattle.rule.specs.Events.{Event}
 use Rattle.history.specs.History.{Call, order, turn, History, call, opening, after}
-use Rattle.history.specs.Promise.{Claim}
+use Rattle.history.specs.Promise.{OfLine, Claim}
 use Rattle.history.proofs.Keeping.{order-phase, order-table, turn-phase, turn-table}
 use Rattle.history.proofs.Claim.{known}
 use Rattle.history.proofs.Lists.{run-last}
@@ -70,7 +70,7 @@ module _ (M : Model) (proper : Proper M) where
     -- in a put-in shift the labels at opening and those ordered are fewer than the cells
     pub roomy : k ≡ 1 → Roomy (length t) label t (events.after k (length t) m label (M .home ab (length t)) t (shown .0))
     roomy = known k (length t) m ab (M .home ab (length t)) homes t (passed .sound proper) (passed .kind) os (λ is. passed .list is .room) (shown .0) history (shown .1)
-        (run-taken M k os (h .calls) (opening M k m ab t os) (opening-taken M proper k m ab t os (h .accepted))) .room
+        (run-taken M k os (h .calls) (opening M k m ab t os) (opening-taken M proper k m ab t os (h .accepted) (OfLine os))) .room
 
     claim : Claim M k m ab t os (h .calls)
     claim = all-lists M proper k m ab t os (h .accepted) (h .calls)

@@ -28,6 +28,7 @@ use Rattle.migration.specs.declared.Task.the-variants.{Fetching}
 use Rattle.till.specs.Till.{tillCall, tillAfter}
 use Rattle.examples.specs.Forms.{emptyCells, phase, allIdle, busyOne, handedBack, callsOf}
 use Rattle.examples.specs.Examples.{four, sheetItems, sheetPutsIn}
+use Rattle.examples.specs.Orders.{oneLine}
 use Rattle.corollaries.specs.Corollaries.{together, inSequence, threeItems, threePutIn, priceItems, twoPrice, morePriceItems, threePrice}
 
 -- ---- rows
@@ -48,6 +49,10 @@ records =
     ∷ phase 2 1 4 false allIdle
     ∷ phase 2 256 0 false allIdle
     ∷ []
+
+-- the last label that a shop adds, the first for factory tests and the greatest
+abbrev pub borders : List ℕ
+borders = 3999999999 ∷ 4000000000 ∷ 4294967295 ∷ []
 
 -- a gateway's fifth worker at work; a kiosk's record of that length with its fourth worker at work
 abbrev pub fifthWorks : Phase
@@ -79,6 +84,17 @@ module _ (M : Model) where
   abbrev pub closed : Phase → ℕ
   closed p = replyNumber (closeCall M p .reply)
 
+  -- a put-in opening on five empty cells with the one label, an order of it, and a round that sends it; an order of it in a shift of kind k
+  abbrev pub puts : ℕ → List ℕ
+  puts v =
+      replyNumber (openReply M 1 1 plain (emptyCells 5) (oneLine v 1 0))
+      ∷ replyNumber (orderCall M (phase 1 5 1 false allIdle) (oneLine v 1 0) 0 0 0 .reply)
+      ∷ replyNumber (openRound M 1 plain (emptyCells 5) (oneLine v 1 0))
+      ∷ []
+
+  abbrev pub asks : (k v : ℕ) → ℕ
+  asks k v = replyNumber (orderCall M (phase k 5 1 false allIdle) [] 0 0 v .reply)
+
   -- a till list for m workers
   abbrev pub read : ℕ → ℕ
   read m = countNumber (tillCall M (bytesOf "7,1") m 1)
@@ -109,6 +125,11 @@ pub record KioskExamples : Type 0 where
   pub crew-next : inAll kiosk 4 5 2 256 ≡ 2
   pub kind-next : inAll kiosk 4 4 2 256 ≡ 3
   pub even-next : inAll kiosk 2 4 2 256 ≡ 21
+  -- labels from 4,000,000,000 up get 24 where they would be put in or sent, in both models; they are taken out and looked up
+  pub tests : map (puts kiosk) borders ≡ (0 ∷ 0 ∷ 0 ∷ []) ∷ (24 ∷ 24 ∷ 24 ∷ []) ∷ (24 ∷ 24 ∷ 24 ∷ []) ∷ []
+  pub tests-out : map (asks kiosk 2) borders ≡ 0 ∷ 0 ∷ 0 ∷ []
+  pub tests-found : map (asks kiosk 3) borders ≡ 0 ∷ 0 ∷ 0 ∷ []
+  pub gateway-tests : map (puts gateway) borders ≡ (0 ∷ 0 ∷ 0 ∷ []) ∷ (24 ∷ 24 ∷ 24 ∷ []) ∷ (24 ∷ 24 ∷ 24 ∷ []) ∷ []
   -- records of the gateway with 5 workers, or with 257 or 300 cells, are spoilt to the kiosk, whose own are spoilt to neither
   pub orders : map (ordered kiosk) records ≡ 0 ∷ 13 ∷ 13 ∷ 13 ∷ 13 ∷ 13 ∷ []
   pub turns : map (turned kiosk) records ≡ 0 ∷ 13 ∷ 13 ∷ 13 ∷ 13 ∷ 13 ∷ []

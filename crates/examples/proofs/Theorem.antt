@@ -26,6 +26,7 @@ use Rattle.examples.specs.Orders.{openingSequence, lineFaults, fillings,
 use Rattle.examples.specs.Repairs.{papers, tears, overwritten, wrongCells, lowestCells, firstMet, wraps, wider, places, repairs}
 use Rattle.examples.specs.Spreading.{recordsBy, bySixLess, byFiveLess, byThriceSix, byGolden, byThrice, byFiveMore, byPlain, byGreatest}
 use Rattle.examples.specs.Spreading.{evenRefusals, byNever, byTwice, byTwiceLess, Spread, spreads, AllSpread}
+use Rattle.examples.specs.TestNumbers.{testNumbers}
 use Rattle.examples.specs.Examples.{tables, phases, prices, examples, ExamplesPromise}
 use Rattle.examples.proofs.Passing.{sameBit, codeOf, sameWorkers, samePhase, answerCode, answers, passes, allPass, all-say}
 
@@ -62,6 +63,11 @@ orders-computed : T (allPass plain orders)
 unfolding allPass passes openingSequence lineFaults fillings lineOrders alteredLists handedOrders sameTable sameBit codeOf sameWorkers samePhase
     lineFault linesFault ordersOf descending into isWellFormed meetsEmpty meetsKey first all some dist probe wrap
 orders-computed = tt
+
+tests-computed : T (allPass plain testNumbers)
+unfolding allPass passes testNumbers ons sameTable sameBit codeOf sameWorkers samePhase answerOf answersOf run call lineFault linesFault descending into count
+    isWellFormed meetsEmpty meetsKey first all some dist probe wrap prev rule settled absorbed insertStep findStep deleteStep fits narrow
+tests-computed = tt
 
 repairs-computed : T (allPass plain repairs)
 unfolding allPass passes papers tears overwritten wrongCells lowestCells firstMet wraps wider places sameTable sameBit codeOf sameWorkers samePhase
@@ -112,10 +118,13 @@ computed-all =
     let seven : AllSay plain (tables ++ phases ++ prices ++ traces ++ bounds ++ limits ++ orders) =
     both plain (tables ++ phases ++ prices ++ traces ++ bounds ++ limits) orders six (all-say plain orders orders-computed)
     in
-    let eight : AllSay plain (tables ++ phases ++ prices ++ traces ++ bounds ++ limits ++ orders ++ repairs) =
-    both plain (tables ++ phases ++ prices ++ traces ++ bounds ++ limits ++ orders) repairs seven (all-say plain repairs repairs-computed)
+    let eight : AllSay plain (tables ++ phases ++ prices ++ traces ++ bounds ++ limits ++ orders ++ testNumbers) =
+    both plain (tables ++ phases ++ prices ++ traces ++ bounds ++ limits ++ orders) testNumbers seven (all-say plain testNumbers tests-computed)
     in
-    both plain (tables ++ phases ++ prices ++ traces ++ bounds ++ limits ++ orders ++ repairs) (map closing schedules) eight
+    let nine : AllSay plain (tables ++ phases ++ prices ++ traces ++ bounds ++ limits ++ orders ++ testNumbers ++ repairs) =
+    both plain (tables ++ phases ++ prices ++ traces ++ bounds ++ limits ++ orders ++ testNumbers) repairs eight (all-say plain repairs repairs-computed)
+    in
+    both plain (tables ++ phases ++ prices ++ traces ++ bounds ++ limits ++ orders ++ testNumbers ++ repairs) (map closing schedules) nine
     (all-closing plain schedules all-close)
 
 pub theorem : ExamplesPromise

@@ -92,12 +92,14 @@ keyBounds =
     ∷ bound (labelledAlone 2 5 (SeekingBack 0 4294967295 0 0 0)) (labelled 2 5 16 15 (SeekingBack 0 0 0 0 0))
     ∷ []
 
--- a label 0 beside a price is label 0; whatever the price of a label, the record is not spoilt by it
+-- a label 0 beside a price is label 0; whatever the price of a label, the record is not spoilt by it, nor is it by a label for factory tests
 unfoldable pub priceBounds : List Example
 priceBounds =
     bound (alone 1 5 (Reading (content 1 0) 4)) (alone 1 5 (Reading 1 4))
     ∷ bound (alone 1 5 (Reading (content 1 4294967295) 4)) (alone 1 5 (Reading 4294967295 4))
     ∷ bound (alone 1 5 (Replacing (content 1 10000000) 4 4 7)) (alone 1 5 (Replacing 10000000 4 4 7))
+    ∷ bound (alone 1 5 (Reading (content 4294967295 1) 0)) (alone 1 5 (Reading 1 0))
+    ∷ bound (alone 1 5 (Replacing (content 4000000000 1) 0 0 0)) (alone 1 5 (Replacing 1 0 0 0))
     ∷ bound (alone 2 5 (Reading (content 1 0) 4)) (alone 2 5 (Reading 5 4))
     ∷ bound (alone 2 5 (WalkingBack (content 1 0) 4)) (alone 2 5 (WalkingBack 5 4))
     ∷ bound (alone 2 5 (SeekingForward (content 1 0) 4 3)) (alone 2 5 (SeekingForward 5 4 3))

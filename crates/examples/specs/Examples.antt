@@ -17,6 +17,7 @@ use Rattle.examples.specs.Limits.{limits}
 use Rattle.examples.specs.Orders.{oneLine, wrongLines, orders}
 use Rattle.examples.specs.Repairs.{repairs}
 use Rattle.examples.specs.Spreading.{spreads, AllSpread}
+use Rattle.examples.specs.TestNumbers.{testNumbers}
 
 -- document 01's four keys in five cells
 abbrev pub four : List ℕ
@@ -160,9 +161,9 @@ prices =
     ∷ calling 1 2 assortment sentAgain grocer 17 (content 4 2 ∷ content 3 4 ∷ 0 ∷ content 13 1 ∷ content 8 5 ∷ [])
     ∷ []
 
--- with turns one by one, spoilt records, limits, orders, the repair bench, and the schedules of steps
+-- with turns one by one, spoilt records, limits, orders, test numbers, the repair bench, and the schedules of steps
 abbrev pub examples : List Example
-examples = tables ++ phases ++ prices ++ traces ++ bounds ++ limits ++ orders ++ repairs ++ map closing schedules
+examples = tables ++ phases ++ prices ++ traces ++ bounds ++ limits ++ orders ++ testNumbers ++ repairs ++ map closing schedules
 
 pub record ExamplesPromise : Type 0 where
   -- with a of 1 and b of 0

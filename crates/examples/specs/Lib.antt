@@ -5,4 +5,5 @@ pub mod Limits
 pub mod Orders
 pub mod Repairs
 pub mod Spreading
+pub mod TestNumbers
 pub mod Traces

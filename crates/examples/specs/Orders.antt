@@ -55,7 +55,7 @@ fourWrong = orderWith 0 0 99 ∷ orderWith 5 1 0 ∷ orderWith 6 1 0 ∷ orderWi
 abbrev pub threeWrong : List Order
 threeWrong = orderWith 0 0 99 ∷ orderWith 5 1 0 ∷ orderWith 6 1 0 ∷ []
 
--- 1, 2, 3, 16, that the table is not sound (here 17), 7, 14, 6, 9
+-- 1, 2, 3, 16, that the table is not sound (here 17), 7, 24, 14, 6, 9
 unfoldable pub openingSequence : List Example
 openingSequence =
     barredIn threeLines 1 17 (ones (7 ∷ [])) fourWrong 1
@@ -65,9 +65,11 @@ openingSequence =
     ∷ barredIn threeLines 0 1 (ones (7 ∷ 0 ∷ [])) fourWrong 3
     ∷ barredIn threeLines 1 1 (ones (7 ∷ 0 ∷ [])) fourWrong 16
     ∷ barredIn threeLines 1 1 (ones (0 ∷ 7 ∷ [])) (atOnes (7 ∷ 7 ∷ 7 ∷ 7 ∷ [])) 16
+    ∷ barredIn threeLines 1 1 (ones (0 ∷ 7 ∷ [])) (orderWith 4000000000 0 99 ∷ atOnes (5 ∷ 6 ∷ 7 ∷ [])) 16
     ∷ opensIn threeLines 1 1 (ones (0 ∷ 7 ∷ [])) (atOnes (7 ∷ 7 ∷ 7 ∷ []))
     ∷ barredIn threeLines 1 1 (ones (7 ∷ 0 ∷ [])) threeWrong 17
     ∷ barredIn threeLines 1 1 (ones (0 ∷ 7 ∷ [])) threeWrong 7
+    ∷ barredIn threeLines 1 1 (ones (0 ∷ 7 ∷ [])) (orderWith 4000000000 0 99 ∷ orderWith 6 1 0 ∷ []) 24
     ∷ barredIn threeLines 1 1 (ones (0 ∷ 7 ∷ [])) (orderWith 5 0 99 ∷ orderWith 6 1 0 ∷ []) 14
     ∷ barredIn threeLines 1 1 (ones (0 ∷ 7 ∷ [])) (orderWith 5 1 99 ∷ orderWith 6 1 0 ∷ []) 6
     ∷ barredIn threeLines 1 1 (ones (0 ∷ 7 ∷ [])) (orderWith 5 1 0 ∷ orderWith 6 1 0 ∷ []) 9
@@ -96,14 +98,24 @@ lineFaults =
     ∷ bars (ones (0 ∷ 7 ∷ [])) (orderWith 5 1 2 ∷ orderWith 0 1 0 ∷ []) 6
     ∷ bars (ones (0 ∷ 7 ∷ [])) (orderWith 5 0 0 ∷ orderWith 5 1 2 ∷ []) 14
     ∷ bars (ones (0 ∷ 7 ∷ [])) (orderWith 5 1 2 ∷ orderWith 5 0 0 ∷ []) 6
+    ∷ bars (ones (0 ∷ 7 ∷ [])) (orderWith 0 1 0 ∷ orderWith 4000000000 1 0 ∷ []) 7
+    ∷ bars (ones (0 ∷ 7 ∷ [])) (orderWith 4000000000 1 0 ∷ orderWith 0 1 0 ∷ []) 24
+    ∷ bars (ones (0 ∷ 7 ∷ [])) (orderWith 5 0 0 ∷ orderWith 4000000000 1 0 ∷ []) 14
+    ∷ bars (ones (0 ∷ 7 ∷ [])) (orderWith 4000000000 1 0 ∷ orderWith 5 0 0 ∷ []) 24
+    ∷ bars (ones (0 ∷ 7 ∷ [])) (orderWith 5 1 2 ∷ orderWith 4000000000 1 0 ∷ []) 6
+    ∷ bars (ones (0 ∷ 7 ∷ [])) (orderWith 4000000000 1 0 ∷ orderWith 5 1 2 ∷ []) 24
     -- behind good lines
     ∷ bars (ones (0 ∷ 7 ∷ [])) (orderWith 7 1 0 ∷ orderWith 5 1 1 ∷ orderWith 5 1 2 ∷ orderWith 0 1 0 ∷ orderWith 5 0 0 ∷ []) 6
     ∷ bars (ones (0 ∷ 7 ∷ [])) (orderWith 7 1 0 ∷ orderWith 5 1 1 ∷ orderWith 5 0 1 ∷ orderWith 5 1 2 ∷ orderWith 0 1 0 ∷ []) 14
     ∷ bars (ones (0 ∷ 7 ∷ [])) (orderWith 7 1 0 ∷ orderWith 5 1 1 ∷ orderWith 0 1 1 ∷ orderWith 5 0 1 ∷ orderWith 5 1 2 ∷ []) 7
-    -- in one line 7 comes before 14, and 14 before 6
+    ∷ bars (ones (0 ∷ 7 ∷ [])) (orderWith 7 1 0 ∷ orderWith 5 1 1 ∷ orderWith 4000000000 1 1 ∷ orderWith 5 0 1 ∷ orderWith 0 1 0 ∷ []) 24
+    -- in one line 7 comes before 14, 24 before 14 and 6, and 14 before 6; label 0 is no label for tests
     ∷ bars (ones (0 ∷ 7 ∷ [])) (oneLine 0 0 2) 7
     ∷ bars (ones (0 ∷ 7 ∷ [])) (oneLine 0 0 1) 7
     ∷ bars (ones (0 ∷ 7 ∷ [])) (oneLine 0 1 2) 7
+    ∷ bars (ones (0 ∷ 7 ∷ [])) (oneLine 4000000000 0 2) 24
+    ∷ bars (ones (0 ∷ 7 ∷ [])) (oneLine 4000000000 0 1) 24
+    ∷ bars (ones (0 ∷ 7 ∷ [])) (oneLine 4000000000 1 2) 24
     ∷ bars (ones (0 ∷ 7 ∷ [])) (oneLine 5 0 2) 14
     -- one fault alone, and just none
     ∷ bars (emptyCells 5) (oneLine 0 1 0) 7
@@ -112,7 +124,14 @@ lineFaults =
     ∷ takes (emptyCells 5) (oneLine 5 9999999 0)
     ∷ bars (emptyCells 5) (oneLine 5 10000000 0) 14
     ∷ bars (emptyCells 5) (oneLine 5 4294967295 0) 14
-    ∷ takes (emptyCells 5) (oneLine 4294967295 1 1)
+    ∷ takes (emptyCells 5) (oneLine 3999999999 1 1)
+    ∷ bars (emptyCells 5) (oneLine 4000000000 1 1) 24
+    ∷ bars (emptyCells 5) (oneLine 4294967295 1 1) 24
+    -- a label for tests that stands in the table already is refused in a list, and the table opens for others
+    ∷ bars (ones (4294967295 ∷ 0 ∷ 0 ∷ 0 ∷ 0 ∷ [])) (oneLine 4294967295 1 1) 24
+    ∷ takes (ones (4294967295 ∷ 0 ∷ 0 ∷ 0 ∷ 0 ∷ [])) (oneLine 5 1 1)
+    ∷ opensIn gateway 2 2 (ones (4294967295 ∷ 0 ∷ 0 ∷ 0 ∷ 0 ∷ [])) (oneLine 4294967295 1 1)
+    ∷ opensIn gateway 3 2 (ones (4294967295 ∷ 0 ∷ 0 ∷ 0 ∷ 0 ∷ [])) (oneLine 4294967295 1 1)
     ∷ bars (emptyCells 5) (oneLine 5 1 2) 6
     ∷ bars (emptyCells 5) (oneLine 5 1 4294967295) 6
     ∷ []
@@ -170,13 +189,15 @@ withBusy k m shut = phase k 5 m shut (set allIdle 0 (worker (Reading (one 3) 3))
 abbrev pub withSecond : ℕ → Activity → Phase
 withSecond k a = phase k 5 2 false (set (set allIdle 0 (worker (Reading (one 3) 3))) 1 (worker a))
 
--- in a put-in shift, by its line: 13, 11, 15, 6, 8, 7, 14
+-- in a put-in shift, by its line: 13, 11, 15, 6, 8, 7, 24, 14
 unfoldable pub lineOrders : List Example
 lineOrders =
     kept (withBusy 1 17 true) [] 0 99 0 13
     ∷ kept (withBusy 1 17 true) (oneLine 0 0 99) 0 99 0 13
+    ∷ kept (withBusy 1 17 true) (oneLine 4000000000 0 1) 0 1 13 13
     ∷ kept (withBusy 1 2 true) [] 0 99 0 11
     ∷ kept (withBusy 1 2 true) (oneLine 0 0 99) 0 99 0 11
+    ∷ kept (withBusy 1 2 true) (oneLine 4000000000 0 1) 0 1 13 11
     ∷ kept (withBusy 1 2 false) [] 0 99 0 15
     ∷ kept (withBusy 1 2 false) (oneLine 13 7 1) 1 1 13 15
     ∷ kept (withBusy 1 2 false) wrongLines 6 0 0 15
@@ -186,6 +207,12 @@ lineOrders =
     ∷ kept (withBusy 1 2 false) (oneLine 0 0 0) 0 1 13 8
     ∷ kept (withBusy 1 2 false) (oneLine 13 7 0) 0 1 13 8
     ∷ kept (withBusy 1 2 false) (oneLine 0 0 1) 0 1 13 7
+    ∷ kept (withBusy 1 2 false) (oneLine 4000000000 0 2) 0 1 13 6
+    ∷ kept (withBusy 1 2 false) (oneLine 4000000000 0 0) 0 1 13 8
+    ∷ kept (withBusy 1 2 false) (oneLine 4000000000 0 1) 0 1 13 24
+    ∷ kept (withBusy 1 2 false) (oneLine 4000000000 1 1) 0 1 13 24
+    ∷ kept (withBusy 1 2 false) (oneLine 4294967295 1 1) 0 1 13 24
+    ∷ ordering (withBusy 1 2 false) (oneLine 3999999999 1 1) 0 1 4000000000 0 (withSecond 1 (Reading (content 3999999999 1) 4))
     ∷ kept (withBusy 1 2 false) (oneLine 13 0 1) 0 1 13 14
     ∷ kept (withBusy 1 2 false) (oneLine 13 10000000 1) 0 1 13 14
     -- the line's worker starts at its label's home, with the label and the price, whatever worker and label are handed in
@@ -216,6 +243,7 @@ alteredLists =
     ∷ kept openedWithLines [] 0 0 0 15
     ∷ ordering openedWithLines (lentLines ++ oneLine 99 1 1) 2 0 0 0 (startedFrom 1 (content 99 1) 4)
     ∷ kept openedWithLines (orderWith 3 7 0 ∷ orderWith 0 2 1 ∷ []) 1 0 0 7
+    ∷ kept openedWithLines (orderWith 3 7 0 ∷ orderWith 4000000000 2 1 ∷ []) 1 0 0 24
     ∷ kept openedWithLines (orderWith 3 7 0 ∷ orderWith 13 0 1 ∷ []) 1 0 0 14
     ∷ kept openedWithLines (orderWith 3 7 0 ∷ orderWith 13 2 2 ∷ []) 1 0 0 6
     ∷ ordering openedWithLines (orderWith 3 7 0 ∷ orderWith 12 5 0 ∷ []) 1 0 0 0 (startedFrom 0 (content 12 5) 2)
@@ -239,6 +267,9 @@ handedOrders =
     ∷ kept (withBusy 3 2 false) (oneLine 13 7 1) 0 1 0 7
     ∷ ordering (withBusy 2 2 false) [] 0 1 13 0 (withSecond 2 (Reading (content 13 0) 3))
     ∷ ordering (withBusy 3 2 false) [] 4294967295 1 13 0 (withSecond 3 (Reading (content 13 0) 3))
+    -- a label for factory tests is taken out and looked up like any other
+    ∷ ordering (withBusy 2 2 false) [] 0 1 4000000000 0 (withSecond 2 (Reading (content 4000000000 0) 0))
+    ∷ ordering (withBusy 3 2 false) [] 0 1 4294967295 0 (withSecond 3 (Reading (content 4294967295 0) 0))
     ∷ ordering (withBusy 2 2 false) wrongLines 0 1 13 0 (withSecond 2 (Reading (content 13 0) 3))
     ∷ ordering (withBusy 3 2 false) (oneLine 4 7 0) 0 1 13 0 (withSecond 3 (Reading (content 13 0) 3))
     ∷ []

@@ -241,17 +241,20 @@ places =
     ∷ barredIn threeLines 1 1 full fourWrong 16
     ∷ barredIn threeLines 1 1 (0 ∷ 7 ∷ []) fourWrong 16
     ∷ barredIn threeLines 1 1 (set oldImage 4 (content 8 0)) fourWrong 16
-    -- before the lines' 7, 14 and 6
+    -- before the lines' 7, 24, 14 and 6
     ∷ barredIn threeLines 1 1 gapped threeWrong 17
     ∷ barredIn threeLines 1 1 disordered threeWrong 18
     ∷ barredIn threeLines 1 1 full threeWrong 4
     ∷ bars gapped (oneLine 0 1 0) 17
+    ∷ bars gapped (oneLine 4000000000 1 0) 17
     ∷ bars gapped (oneLine 5 0 0) 17
     ∷ bars gapped (oneLine 5 1 2) 17
     ∷ bars disordered (oneLine 0 1 0) 18
+    ∷ bars disordered (oneLine 4000000000 1 0) 18
     ∷ bars disordered (oneLine 5 0 0) 18
     ∷ bars disordered (oneLine 5 1 2) 18
     ∷ bars full (oneLine 0 1 0) 4
+    ∷ bars full (oneLine 4000000000 1 0) 4
     -- before 9
     ∷ bars gapped (atOnes (1 ∷ 2 ∷ 3 ∷ 4 ∷ [])) 17
     ∷ bars disordered (atOnes (1 ∷ 2 ∷ 3 ∷ [])) 18

@@ -43,7 +43,7 @@ use Rattle.protocol.specs.Lines.{Good}
 use Rattle.protocol.proofs.Chain.{none-accepted}
 use Rattle.protocol.proofs.Theorem.{well-formed, orders}
 use Rattle.history.specs.History.{History}
-use Rattle.history.specs.Promise.{entriesAfter, AsOpened, Carried, present}
+use Rattle.history.specs.Promise.{entriesAfter, OfLine, AsOpened, Carried, present}
 use Rattle.history.proofs.Opening.{by-kinds}
 use Rattle.history.proofs.Simulation.{Shows}
 use Rattle.history.proofs.Standing.{price-ok, somewhere, same-behind, same-least, standing, fewer}
@@ -91,12 +91,12 @@ module _ (k n m : ℕ) (ab : Hash) (home : ℕ → ℕ) (hb : (x : ℕ) → home
 
   module _ (os : List Order) (room : k ≡ 1 → size (labels label t ++ orderKeys os) < n) where
     -- the accepted orders leave room, however often a line is given
-    roomy : (s : History) (r : Run) → Shows k n m ab s r → Taken k os s → k ≡ 1 → Roomy n label t r
+    roomy : (s : History) (r : Run) → Shows k n m ab s r → Taken k (OfLine os) s → k ≡ 1 → Roomy n label t r
     roomy s r h b is = room-by n label t (orderKeys os) r (room is)
         (λ v i. let o = b .lines is v (rw (h .ordered) i) in rw (o .is) (key-in os (o .line) (o .inside)))
 
     -- and have prices that a label can have
-    pub known : (es : List Event) (s : History) → Shows k n m ab s (events.after k n m label home t es) → Taken k os s
+    pub known : (es : List Event) (s : History) → Shows k n m ab s (events.after k n m label home t es) → Taken k (OfLine os) s
         → Known k n m home t (events.after k n m label home t es)
     known es s h b = known-of es (roomy s (events.after k n m label home t es) h b)
         (λ is v i. let (low, high) = b .entries v (rw (h .ordered) i) .priced is in price-ok _ low high)
@@ -195,9 +195,9 @@ module _ (k n m : ℕ) (ab : Hash) (home : ℕ → ℕ) (hb : (x : ℕ) → home
       → (w v : ℕ) → orderCall M (s .phase) os i w v .reply ≡ Accepted
   accepts M size crew os good one up i there free w v =
       let o = good one i there in
-      let (_, (_, (_, (_, (_, (_, (_, none))))))) = orders M (s .phase) os i w v .inserts (h .kind ∙ one) in
+      let (_, (_, (_, (_, (_, (_, (_, (_, none)))))))) = orders M (s .phase) os i w v .inserts (h .kind ∙ one) in
       let formed = well-formed M (s .phase) .0 (formed M size crew) in
-      none-accepted _ (none .1 (((((((tt, formed), h .shut ∙ up), there), omega (arith, h .count, o .worker)), free), o .key), o .price))
+      none-accepted _ (none .1 ((((((((tt, formed), h .shut ∙ up), there), omega (arith, h .count, o .worker)), free), o .key), o .shop), o .price))
 
   -- ---- look up
   -- the entries of unfinished operations are those that the workers look for

@@ -47,8 +47,8 @@ module _ (M : Model) (proper : Proper M) (k m : ℕ) (ab : Hash) (t : List ℕ) 
   opening-untouched = record { table = λ _. refl; idle = λ _. resting .rest }
 
   -- no order is accepted yet
-  pub opening-taken : Taken k os (opening M k m ab t os)
-  opening-taken = record { kind = resting .kind; entries = λ y i. absurd i; lines = λ is y i. absurd i }
+  pub opening-taken : (L : ℕ → Type 0) → Taken k L (opening M k m ab t os)
+  opening-taken L = record { kind = resting .kind; entries = λ y i. absurd i; lines = λ is y i. absurd i }
 
   pub opening-shows : Shows k (length t) m ab (opening M k m ab t os) (events.opened m t)
   opening-shows = rw accepted

@@ -1,13 +1,16 @@
 -- The promises of this crate.
 use mathlib.Core.Path.{_≡_, refl, sym, ap, _∙_, subst}
-use mathlib.Core.Logic.{_≢_, Iff·rfl}
+use mathlib.Core.Logic.{_≢_, Iff·rfl, inl, ⊎-elim}
 use mathlib.Core.Bool.{Bool, true, false, cond}
 use mathlib.Core.List.{List, [], _∷_, map}
 use Prim.Native.Nat.{ℕ}
+use native.Mathlib.Omega.{arith}
 use lib.Dec.{eqb}
 use lib.ListN.{length}
 use borrow.Author.Tests.{ne-eqb}
 use Rattle.ring.proofs.Split.{by-eq}
+use Rattle.layout.specs.Layout.{In}
+use Rattle.layout.proofs.Sets.{in-append}
 use Rattle.homes.specs.declared.Hash.{Hash}
 use Rattle.prices.specs.Contents.{label}
 use Rattle.prices.specs.Priced.{SameLeast, pricedLayout}
@@ -17,7 +20,7 @@ use Rattle.prices.proofs.Theorem.{theorem as layouts}
 use Rattle.orders.specs.declared.Order.{Order}
 use Rattle.rule.specs.Events as events
 use Rattle.rule.specs.Events.{Run}
-use Rattle.phases.specs.Promise.{Carries, SameOrders}
+use Rattle.phases.specs.Promise.{Carries, Deletes, Finds, SameOrders}
 use Rattle.determinism.proofs.Theorem.{phases}
 use Rattle.state.specs.Model.{Model, modelOf}
 use Rattle.state.proofs.Model.{proper}
@@ -27,13 +30,13 @@ use Rattle.state.specs.declared.Reply.the-variants.{Accepted}
 use Rattle.protocol.specs.Calls.{closeReply}
 use Rattle.protocol.proofs.Theorem.{open-passed}
 use Rattle.history.specs.History.{Call, order, turn, close, History, call, run, Lent, runLent, opening, after, afterLent}
-use Rattle.history.specs.Promise.{entriesAfter, HistoryPromise, AnyListsPromise, RefusedPromise, KeepsTablePromise, FixedPromise, OneTablePromise, BothOneTable, TwoTurnsPromise}
+use Rattle.history.specs.Promise.{entriesAfter, OfLine, HistoryPromise, AnyListsPromise, RefusedPromise, KeepsTablePromise, FixedPromise, OneTablePromise, BothOneTable, TwoTurnsPromise}
 use Rattle.history.proofs.Claim.{known, closed, cells, cheapest, remaining, formed, as-opened, bounded, accepts, ordering, prices, only, union, each}
 use Rattle.history.proofs.Counts.{counts}
-use Rattle.history.proofs.Opening.{homes, resting, opening-untouched, opening-taken, opening-shows}
+use Rattle.history.proofs.Opening.{by-kinds, homes, resting, opening-untouched, opening-taken, opening-shows}
 use Rattle.history.proofs.Refused.{refused-phase, refused-formed, shut-stays}
 use Rattle.history.proofs.Simulation.{Shows, unfinished-says, simulates-lent, simulates}
-use Rattle.history.proofs.Taking.{run-taken}
+use Rattle.history.proofs.Taking.{run-taken, run-lent-taken}
 use Rattle.history.proofs.Turns.{alike}
 use Rattle.history.proofs.Unordered.{run-untouched, close-accepted}
 
@@ -50,7 +53,7 @@ history M proper k m ab t os accepted cs =
     let start = opening-shows M proper k m ab t os accepted in
     let (es, h) = simulates M k n m ab os cs (opening M k m ab t os) (events.opened m t) start in
     let r = events.after k n m label home t es in
-    let b = run-taken M k os cs (opening M k m ab t os) (opening-taken M proper k m ab t os accepted) in
+    let b = run-taken M k os cs (opening M k m ab t os) (opening-taken M proper k m ab t os accepted (OfLine os)) in
     let g = known k n m ab home hb t ok kind os (λ is. q .list is .room) es s h b in
     record {
       closed = closed k n m ab home hb t ok kind s r h g;
@@ -107,11 +110,22 @@ any-lists M proper k m ab t os accepted cs =
     let r = events.after k n m label home t es in
     let p = phases n m label home (record { blank = refl; inside = homes M proper k m ab t os accepted }) t (contents .priced n home t (q .sound proper)) es in
     let o : k ≡ 1 → Carries n label home t r = λ is. subst (λ (j : ℕ). Carries n label home t (events.after j n m label home t es)) (sym is) (p .carries) in
+    let d : k ≡ 2 → Deletes n label home t r = λ is. subst (λ (j : ℕ). Deletes n label home t (events.after j n m label home t es)) (sym is) (p .deletes) in
+    let f : k ≡ 3 → Finds m label t r = λ is. subst (λ (j : ℕ). Finds m label t (events.after j n m label home t es)) (sym is) (p .finds) in
+    let entries = run-lent-taken M k cs (opening M k m ab t os) (opening-taken M proper k m ab t os accepted (λ _. Unit {0})) .entries in
     record {
       ordering = λ is. ordering k n m ab home t s r h (o is);
       union = λ is. union k n m ab home t s r h (o is);
       prices = λ is. prices k n m ab home t s r h (o is);
       only = λ is. only k n m ab home t s r h (o is);
+      acceptable = entries;
+      no-test = λ y l i. by-kinds k (q .kind)
+          (λ is. ⊎-elim
+          (λ j. absurd (omega (arith, entries y j .shop is)))
+          (λ j. j)
+          (in-append (s .ordered) t y .0 (only k n m ab home t s r h (o is) y (λ z. omega arith) (in-append (s .table) _ y .1 (inl i)))))
+          (λ is. d is .only y (λ z. omega arith) (subst (In y) (h .table) i))
+          (λ is. subst (In y) (h .table ∙ f is .unchanged) i);
       unread = λ ne. run-unread M k n m ab os ne cs (opening M k m ab t os) (events.opened m t) start;
     }
 

@@ -46,9 +46,10 @@ Carried s v = (w : ℕ) × (label (entryOf (doing (s .phase) w)) ≡ v)
 abbrev pub present : History → List ℕ
 present s = s .table ++ map (λ (w : Worker). entryOf (w .activity)) (s .phase .workers)
 
--- the entry y may be ordered in a phase of kind k: it has a key, put in a price from 1 to 9,999,999, else none
+-- the entry y may be ordered in a phase of kind k: it has a key, put in one below 4,000,000,000 and a price from 1 to 9,999,999, else no price
 pub record Acceptable (k y : ℕ) : Type 0 where
   pub key : label y ≢ 0
+  pub shop : k ≡ 1 → label y < 4000000000
   pub priced : k ≡ 1 → (1 ≤ price y) × (price y ≤ 9999999)
   pub unpriced : k ≢ 1 → price y ≡ 0
 
@@ -94,7 +95,7 @@ module _ (M : Model) (k m : ℕ) (ab : Hash) (t : List ℕ) (os : List Order) (c
     pub counts : after M k m ab t os cs .counted ≡ count worked (turnReplies M os cs (opening M k m ab t os))
     -- they are fewer than the formula
     pub bounded : after M k m ab t os cs .counted < mostSteps (length t) m (length (after M k m ab t os cs .ordered))
-    -- every accepted order is for a key, in an insert phase at a price from 1 to 9,999,999
+    -- every accepted order is for a key, in an insert phase for one below 4,000,000,000 at a price from 1 to 9,999,999
     pub acceptable : (y : ℕ) → In y (after M k m ab t os cs .ordered) → Acceptable k y
     -- put in: it is of a line of the list; and until the close every line is accepted whenever its worker is idle, also one that was given before
     pub listed : k ≡ 1 → (y : ℕ) → In y (after M k m ab t os cs .ordered) → OfLine os y
@@ -137,6 +138,10 @@ module _ (M : Model) (k m : ℕ) (ab : Hash) (t : List ℕ) (os : List Order) (c
         ↔ (In v (labels label t) ⊎ In v (labels label (afterLent M k m ab t os cs .ordered)))
     pub prices : k ≡ 1 → SameLeast label (present (afterLent M k m ab t os cs)) (afterLent M k m ab t os cs .ordered ++ t)
     pub only : k ≡ 1 → (y : ℕ) → label y ≢ 0 → In y (present (afterLent M k m ab t os cs)) → In y (afterLent M k m ab t os cs .ordered ++ t)
+    -- whatever the lists, every accepted order is one that may be accepted
+    pub acceptable : (y : ℕ) → In y (afterLent M k m ab t os cs .ordered) → Acceptable k y
+    -- so no key from 4,000,000,000 up, for factory tests, comes into the table in any kind of phase: whichever stands there stood there at opening
+    pub no-test : (y : ℕ) → 4000000000 ≤ label y → In y (afterLent M k m ab t os cs .table) → In y t
     -- take out and look up read no list: all is as after the same calls with the list of the opening
     pub unread : k ≢ 1 → afterLent M k m ab t os cs ≡ after M k m ab t os (map (λ (c : Lent). c .asks) cs)
 

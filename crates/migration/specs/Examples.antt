@@ -98,6 +98,21 @@ spread = record {
   answers = 0 ∷ 0 ∷ word 2 ∷ word 1 ∷ 0 ∷ word 1 ∷ word 1 ∷ word 2 ∷ word 1 ∷ word 2 ∷ 0 ∷ [];
 }
 
+-- labels for factory tests are moved like any other: in three cells their homes are cells 0 and 1, in five both are cell 0
+abbrev pub tests : Batch
+tests = record {
+  crew = 1;
+  hash = plain;
+  old = content 4294967295 7 ∷ content 4000000000 9 ∷ 0 ∷ [];
+  new = 0 ∷ 0 ∷ 0 ∷ 0 ∷ 0 ∷ [];
+  ops = 1 ∷ 2 ∷ 2 ∷ 2 ∷ 1 ∷ 2 ∷ 2 ∷ 2 ∷ 2 ∷ 1 ∷ 2 ∷ 3 ∷ [];
+  workers = 0 ∷ 0 ∷ 0 ∷ 0 ∷ 0 ∷ 0 ∷ 0 ∷ 0 ∷ 0 ∷ 0 ∷ 0 ∷ 0 ∷ [];
+  out = 77 ∷ 77 ∷ 77 ∷ 77 ∷ 77 ∷ 77 ∷ 77 ∷ 77 ∷ 77 ∷ 77 ∷ 77 ∷ 77 ∷ [];
+  reply = 0;
+  closed = content 4294967295 7 ∷ content 4000000000 9 ∷ 0 ∷ 0 ∷ 0 ∷ [];
+  answers = 0 ∷ word 1 ∷ word 1 ∷ word 2 ∷ 0 ∷ word 1 ∷ word 1 ∷ word 1 ∷ word 2 ∷ 0 ∷ word 2 ∷ 0 ∷ [];
+}
+
 -- nothing to carry: each order is finished on its first turn; behind the last old cell a busy worker's order gets 8, a free one's 9
 abbrev pub vacant : Batch
 vacant = record {
@@ -153,7 +168,7 @@ AllGiven [] = Unit {0}
 AllGiven (b ∷ bs) = Given b × AllGiven bs
 
 abbrev pub batches : List Batch
-batches = aisle ∷ contended ∷ narrower ∷ spread ∷ vacant ∷ cut ∷ unopened ∷ []
+batches = aisle ∷ contended ∷ narrower ∷ spread ∷ tests ∷ vacant ∷ cut ∷ unopened ∷ []
 
 -- ---- moments of a course, with what is counted beside it: the first of the lists above, and two orders of it alone
 abbrev pub moment : List Call → Course

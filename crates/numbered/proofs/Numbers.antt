@@ -13,7 +13,7 @@ use Rattle.rule.specs.declared.Answer.the-variants.{WentOn, Finished, Price, No
 use Rattle.rule.specs.declared.Answer.the-variants as answer
 use Rattle.state.specs.Refusals.{numberOf}
 use Rattle.state.specs.declared.Refusal.{Refusal}
-use Rattle.state.specs.declared.Refusal.the-variants.{Size, Crew, Kind, Unsound, OtherTable, NoWorker, Blank, Busy, Full, Working, Shut, ShortList, Spoilt, WrongPrice, NoLine, LongList, Gap, Disorder, BadRecord, BadField, Even, Absent, Unfit}
+use Rattle.state.specs.declared.Refusal.the-variants.{Size, Crew, Kind, Unsound, OtherTable, NoWorker, Blank, Busy, Full, Working, Shut, ShortList, Spoilt, WrongPrice, NoLine, LongList, Gap, Disorder, BadRecord, BadField, Even, Absent, Unfit, TestNumber}
 use Rattle.state.specs.declared.Reply.{Reply}
 use Rattle.state.specs.declared.Reply.the-variants.{Accepted, Refused}
 use Rattle.protocol.specs.declared.TurnReply.{TurnReply}
@@ -24,7 +24,7 @@ use Rattle.numbered.specs.Numbers.{word, refusalAnswer, stepAnswer, turn
 abbrev refusal-at : ℕ → Refusal
 refusal-at n =
     getD (Size ∷ Size ∷ Crew ∷ Kind ∷ Unsound ∷ OtherTable ∷ NoWorker ∷ Blank ∷ Busy ∷ Full ∷ Working ∷ Shut ∷ ShortList ∷ Spoilt ∷ WrongPrice ∷ NoLine ∷ LongList ∷ Gap ∷ Disorder ∷ BadRecord ∷ BadField
-    ∷ Even ∷ Absent ∷ Unfit ∷ []) n
+    ∷ Even ∷ Absent ∷ Unfit ∷ TestNumber ∷ []) n
     Size
 
 known : (r : Refusal) → (refusal-at (numberOf r) ≡ r) × (refusalAnswer r < 2 ^ 33)
@@ -51,6 +51,7 @@ known BadField = (refl, omega arith)
 known Even = (refl, omega arith)
 known Absent = (refl, omega arith)
 known Unfit = (refl, omega arith)
+known TestNumber = (refl, omega arith)
 
 one-refusal : (r s : Refusal) → refusalAnswer r ≡ refusalAnswer s → r ≡ s
 one-refusal r s e = let n : numberOf r ≡ numberOf s = omega arith in sym (known r .0) ∙ ap refusal-at n ∙ known s .0

@@ -1,5 +1,5 @@
 -- Lists of orders (document 02, point 2): a line by its number, the check of the lines, and lists that come as three parallel lists of numbers.
-use mathlib.Core.Bool.{cond}
+use mathlib.Core.Bool.{Bool, cond}
 use mathlib.Core.List.{List, [], _∷_, map}
 use Prim.Native.Nat.{ℕ, _+_}
 use lib.Dec.{ltb, leb, eqb}
@@ -23,11 +23,15 @@ lineAt os i = record { there = ltb i (length os); order = getD os i blank }
 abbrev pub orderKeys : List Order → List ℕ
 orderKeys os = map (λ (o : Order). o .key) os
 
+-- ---- a key for factory tests (document 02, point 10: a test number), from 4,000,000,000 up: no order puts it in
+abbrev pub isTest : ℕ → Bool
+isTest key = leb 4000000000 key
+
 -- ---- the check of the lines, for a crew of m workers
--- the documents' number of what is wrong with a line: key 0 (7), a price that no label can have (14), a worker that the crew lacks (6), in this order; 0
--- if nothing is
+-- the documents' number of what is wrong with a line: key 0 (7), a test number (24), a price that no label can have (14), a worker that the crew lacks (6),
+-- in this order; 0 if nothing is
 unfoldable pub lineFault : ℕ → Order → ℕ
-lineFault m o = cond (eqb (o .key) 0) 7 (cond (priceOk (o .price)) (cond (leb m (o .worker)) 6 0) 14)
+lineFault m o = cond (eqb (o .key) 0) 7 (cond (isTest (o .key)) 24 (cond (priceOk (o .price)) (cond (leb m (o .worker)) 6 0) 14))
 
 -- of the lines, from the first on, the first with which something is wrong decides
 unfoldable pub linesFault : ℕ → List Order → ℕ

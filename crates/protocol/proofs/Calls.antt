@@ -30,12 +30,12 @@ use Rattle.state.specs.Model.{Model, sizeOk, crewOk}
 use Rattle.state.specs.Open.{crowded}
 use Rattle.state.specs.Refusals.{replyNumber}
 use Rattle.state.specs.declared.Phase.{Phase}
-use Rattle.state.specs.declared.Refusal.the-variants.{Size, Crew, Kind, Unsound, OtherTable, NoWorker, Blank, Busy, Full, Working, Shut, Spoilt, WrongPrice, NoLine, LongList, Gap, Disorder, Even}
+use Rattle.state.specs.declared.Refusal.the-variants.{Size, Crew, Kind, Unsound, OtherTable, NoWorker, Blank, Busy, Full, Working, Shut, Spoilt, WrongPrice, NoLine, LongList, Gap, Disorder, Even, TestNumber}
 use Rattle.protocol.specs.Bars.{doing, allIdle}
 use Rattle.protocol.specs.Calls.{turnNumber, movedAt, turnCheck, turnCall}
 use Rattle.protocol.specs.IsWellFormed.{isWellFormed}
 use Rattle.protocol.specs.Lines.{Priced, Mispriced}
-use Rattle.protocol.proofs.Lines.{apart, blank-first, price-first, worker-first, fills-says}
+use Rattle.protocol.proofs.Lines.{apart, blank-first, test-first, price-first, worker-first, fills-says}
 use Rattle.protocol.proofs.Pricing.{price-says, wrong-says}
 use Rattle.protocol.proofs.Chain.{Step, barring, wanting, testing, reaching, by-reply}
 use Rattle.protocol.proofs.WellFormed.{all-idle-says, some-busy, well-formed-says}
@@ -98,6 +98,7 @@ module _ (M : Model) (k m : ℕ) (ab : Hash) (t : List ℕ) where
       }
       ∷ soundSteps M ab t
       ++ barring (eqb (linesFault m os) 7) (blank-first m os) Blank
+      ∷ barring (eqb (linesFault m os) 24) (test-first m os) TestNumber
       ∷ barring (eqb (linesFault m os) 14) (price-first m os) WrongPrice
       ∷ barring (eqb (linesFault m os) 6) (worker-first m os) NoWorker
       ∷ barring (crowded t os) (fills-says t os) Full
@@ -131,7 +132,8 @@ module _ (M : Model) (p : Phase) where
         apart = λ l h. omega arith;
       }
       ∷ workerSteps (getD os i blank .worker) (getD os i blank .key)
-      ++ record {
+      ++ reaching 4000000000 (getD os i blank .key) TestNumber
+      ∷ record {
         when = not (priceOk (getD os i blank .price));
         why = WrongPrice;
         passes = Priced (getD os i blank .price);

@@ -10,7 +10,7 @@ use borrow.Author.Tests.{not-true, not-false, eq-eqb, leb-true, leb-false}
 use Rattle.ring.proofs.Tests.{tested, by-test, not-both}
 use Rattle.state.specs.Refusals.{numberOf, replyNumber, Bar, firstOf}
 use Rattle.state.specs.declared.Refusal.{Refusal}
-use Rattle.state.specs.declared.Refusal.the-variants.{Size, Crew, Kind, Unsound, OtherTable, NoWorker, Blank, Busy, Full, Working, Shut, ShortList, Spoilt, WrongPrice, NoLine, LongList, Gap, Disorder, BadRecord, BadField, Even, Absent, Unfit}
+use Rattle.state.specs.declared.Refusal.the-variants.{Size, Crew, Kind, Unsound, OtherTable, NoWorker, Blank, Busy, Full, Working, Shut, ShortList, Spoilt, WrongPrice, NoLine, LongList, Gap, Disorder, BadRecord, BadField, Even, Absent, Unfit, TestNumber}
 use Rattle.state.specs.declared.Reply.{Reply}
 use Rattle.state.specs.declared.Reply.the-variants.{Accepted, Refused}
 use Rattle.protocol.specs.Cases.{Case, DecidesFrom, Decides}
@@ -176,6 +176,7 @@ refusal-number BadField e = omega arith
 refusal-number Even e = omega arith
 refusal-number Absent e = omega arith
 refusal-number Unfit e = omega arith
+refusal-number TestNumber e = omega arith
 
 pub none-accepted : (r : Reply) → replyNumber r ≡ 0 → r ≡ Accepted
 none-accepted Accepted e = refl

@@ -15,25 +15,36 @@ use Rattle.layout.proofs.Once.{falls-once, once-size}
 use Rattle.layout.proofs.Sets.{top, descending-falls, in-descending, in-append, cell-in, subset-size}
 use Rattle.prices.specs.Contents.{label, priceOk}
 use Rattle.prices.specs.Priced.{labels}
-use Rattle.orders.specs.Orders.{blank, orderKeys, lineFault, linesFault}
+use Rattle.orders.specs.Orders.{blank, orderKeys, isTest, lineFault, linesFault}
 use Rattle.orders.specs.declared.Order.{Order}
 use Rattle.state.specs.Open.{crowded}
-use Rattle.protocol.specs.Lines.{Priced, Mispriced, Good, Earliest, Fills}
+use Rattle.protocol.specs.Lines.{Priced, Mispriced, ShopKey, TestKey, Good, Earliest, Fills}
 use Rattle.protocol.proofs.Pricing.{price-says, wrong-says}
 
 -- ---- one line
-by-line : (C : ℕ → Type 0) (m : ℕ) (o : Order) → (o .key ≡ 0 → C 7) → (o .key ≢ 0 → Mispriced (o .price) → C 14)
-    → (o .key ≢ 0 → Priced (o .price) → m ≤ o .worker → C 6) → (Good m o → C 0) → C (lineFault m o)
+-- its price decides, or its worker, for m workers
+abbrev PriceDecides : Order → Type 0
+PriceDecides o = (o .key ≢ 0) × ShopKey (o .key) × Mispriced (o .price)
+
+abbrev WorkerDecides : ℕ → Order → Type 0
+WorkerDecides m o = (o .key ≢ 0) × ShopKey (o .key) × Priced (o .price) × (m ≤ o .worker)
+
+by-line : (C : ℕ → Type 0) (m : ℕ) (o : Order) → (o .key ≡ 0 → C 7) → (TestKey (o .key) → C 24)
+    → (o .key ≢ 0 → ShopKey (o .key) → Mispriced (o .price) → C 14)
+    → (o .key ≢ 0 → ShopKey (o .key) → Priced (o .price) → m ≤ o .worker → C 6) → (Good m o → C 0) → C (lineFault m o)
 unfolding lineFault
-by-line C m o f g h k = tested C (eqb (o .key) 0)
+by-line C m o f t g h k = tested C (eqb (o .key) 0)
     (λ e. f (eqb-true (o .key) 0 e))
     (λ e. let nz = eqb-false (o .key) 0 e in
+    tested C (isTest (o .key))
+    (λ l. t (leb-true 4000000000 (o .key) l))
+    (λ l. let shop = leb-false 4000000000 (o .key) l in
     tested C (priceOk (o .price))
     (λ p. let ok = price-says (o .price) .0 p in
     tested C (leb m (o .worker))
-    (λ l. h nz ok (leb-true m (o .worker) l))
-    (λ l. k (record { key = nz; price = ok; worker = leb-false m (o .worker) l })))
-    (λ p. g nz (wrong-says (o .price) .0 (rw p))))
+    (λ l. h nz shop ok (leb-true m (o .worker) l))
+    (λ l. k (record { key = nz; shop = shop; price = ok; worker = leb-false m (o .worker) l })))
+    (λ p. g nz shop (wrong-says (o .price) .0 (rw p)))))
 
 -- a price that a label can have is not one that none can have
 pub apart : (c : ℕ) → Mispriced c → Priced c → ⊥
@@ -43,30 +54,42 @@ module _ (m : ℕ) (o : Order) where
   good-says : lineFault m o ≡ 0 ↔ Good m o
   good-says = by-line (λ n. n ≡ 0 ↔ Good m o) m o
       (λ z. (λ e. absurd (omega arith), λ h. absurd (h .key z)))
-      (λ nz p. (λ e. absurd (omega arith), λ h. absurd (apart (o .price) p (h .price))))
-      (λ nz p l. (λ e. absurd (omega arith), λ h. absurd (omega (arith, h .worker))))
+      (λ t. (λ e. absurd (omega arith), λ h. absurd (omega (arith, h .shop))))
+      (λ nz s p. (λ e. absurd (omega arith), λ h. absurd (apart (o .price) p (h .price))))
+      (λ nz s p l. (λ e. absurd (omega arith), λ h. absurd (omega (arith, h .worker))))
       (λ h. (λ _. h, λ _. refl))
 
   blank-says : lineFault m o ≡ 7 ↔ (o .key ≡ 0)
   blank-says = by-line (λ n. n ≡ 7 ↔ (o .key ≡ 0)) m o
       (λ z. (λ _. z, λ _. refl))
-      (λ nz p. (λ e. absurd (omega arith), λ z. absurd (nz z)))
-      (λ nz p l. (λ e. absurd (omega arith), λ z. absurd (nz z)))
+      (λ t. (λ e. absurd (omega arith), λ z. absurd (omega arith)))
+      (λ nz s p. (λ e. absurd (omega arith), λ z. absurd (nz z)))
+      (λ nz s p l. (λ e. absurd (omega arith), λ z. absurd (nz z)))
       (λ h. (λ e. absurd (omega arith), λ z. absurd (h .key z)))
 
-  price-wrong : lineFault m o ≡ 14 ↔ ((o .key ≢ 0) × Mispriced (o .price))
-  price-wrong = by-line (λ n. n ≡ 14 ↔ ((o .key ≢ 0) × Mispriced (o .price))) m o
-      (λ z. (λ e. absurd (omega arith), λ (nz, _). absurd (nz z)))
-      (λ nz p. (λ _. (nz, p), λ _. refl))
-      (λ nz p l. (λ e. absurd (omega arith), λ (_, q). absurd (apart (o .price) q p)))
-      (λ h. (λ e. absurd (omega arith), λ (_, q). absurd (apart (o .price) q (h .price))))
+  test-says : lineFault m o ≡ 24 ↔ TestKey (o .key)
+  test-says = by-line (λ n. n ≡ 24 ↔ TestKey (o .key)) m o
+      (λ z. (λ e. absurd (omega arith), λ t. absurd (omega arith)))
+      (λ t. (λ _. t, λ _. refl))
+      (λ nz s p. (λ e. absurd (omega arith), λ t. absurd (omega arith)))
+      (λ nz s p l. (λ e. absurd (omega arith), λ t. absurd (omega arith)))
+      (λ h. (λ e. absurd (omega arith), λ t. absurd (omega (arith, h .shop))))
 
-  no-worker : lineFault m o ≡ 6 ↔ ((o .key ≢ 0) × Priced (o .price) × (m ≤ o .worker))
-  no-worker = by-line (λ n. n ≡ 6 ↔ ((o .key ≢ 0) × Priced (o .price) × (m ≤ o .worker))) m o
+  price-wrong : lineFault m o ≡ 14 ↔ PriceDecides o
+  price-wrong = by-line (λ n. n ≡ 14 ↔ PriceDecides o) m o
       (λ z. (λ e. absurd (omega arith), λ (nz, _, _). absurd (nz z)))
-      (λ nz p. (λ e. absurd (omega arith), λ (_, q, _). absurd (apart (o .price) p q)))
-      (λ nz p l. (λ _. (nz, p, l), λ _. refl))
-      (λ h. (λ e. absurd (omega arith), λ (_, _, l). absurd (omega (arith, h .worker))))
+      (λ t. (λ e. absurd (omega arith), λ (_, s, _). absurd (omega arith)))
+      (λ nz s p. (λ _. (nz, s, p), λ _. refl))
+      (λ nz s p l. (λ e. absurd (omega arith), λ (_, _, q). absurd (apart (o .price) q p)))
+      (λ h. (λ e. absurd (omega arith), λ (_, _, q). absurd (apart (o .price) q (h .price))))
+
+  no-worker : lineFault m o ≡ 6 ↔ WorkerDecides m o
+  no-worker = by-line (λ n. n ≡ 6 ↔ WorkerDecides m o) m o
+      (λ z. (λ e. absurd (omega arith), λ (nz, _, _, _). absurd (nz z)))
+      (λ t. (λ e. absurd (omega arith), λ (_, s, _, _). absurd (omega arith)))
+      (λ nz s p. (λ e. absurd (omega arith), λ (_, _, q, _). absurd (apart (o .price) p q)))
+      (λ nz s p l. (λ _. (nz, s, p, l), λ _. refl))
+      (λ h. (λ e. absurd (omega arith), λ (_, _, _, l). absurd (omega (arith, h .worker))))
 
 -- ---- the lines
 -- a line that decides, behind good ones
@@ -118,18 +141,20 @@ module _ (m : ℕ) (os : List Order) where
   pub blank-first : eqb (linesFault m os) 7 ≡ true ↔ Earliest m os (λ (o : Order). o .key ≡ 0)
   blank-first = first-is 7 (λ e. omega arith) (λ (o : Order). o .key ≡ 0) (blank-says m)
 
-  pub price-first : eqb (linesFault m os) 14 ≡ true ↔ Earliest m os (λ (o : Order). (o .key ≢ 0) × Mispriced (o .price))
-  price-first = first-is 14 (λ e. omega arith) (λ (o : Order). (o .key ≢ 0) × Mispriced (o .price)) (price-wrong m)
+  pub test-first : eqb (linesFault m os) 24 ≡ true ↔ Earliest m os (λ (o : Order). TestKey (o .key))
+  test-first = first-is 24 (λ e. omega arith) (λ (o : Order). TestKey (o .key)) (test-says m)
 
-  pub worker-first : eqb (linesFault m os) 6 ≡ true ↔ Earliest m os (λ (o : Order). (o .key ≢ 0) × Priced (o .price) × (m ≤ o .worker))
-  worker-first = first-is 6 (λ e. omega arith) (λ (o : Order). (o .key ≢ 0) × Priced (o .price) × (m ≤ o .worker)) (no-worker m)
+  pub price-first : eqb (linesFault m os) 14 ≡ true ↔ Earliest m os PriceDecides
+  price-first = first-is 14 (λ e. omega arith) PriceDecides (price-wrong m)
+
+  pub worker-first : eqb (linesFault m os) 6 ≡ true ↔ Earliest m os (WorkerDecides m)
+  worker-first = first-is 6 (λ e. omega arith) (WorkerDecides m) (no-worker m)
 
 -- lines among which none decides are all good
 pub all-good : (m : ℕ) (os : List Order) → (Earliest m os (λ (o : Order). o .key ≡ 0) → ⊥)
-    → (Earliest m os (λ (o : Order). (o .key ≢ 0) × Mispriced (o .price)) → ⊥)
-    → (Earliest m os (λ (o : Order). (o .key ≢ 0) × Priced (o .price) × (m ≤ o .worker)) → ⊥)
+    → (Earliest m os (λ (o : Order). TestKey (o .key)) → ⊥) → (Earliest m os PriceDecides → ⊥) → (Earliest m os (WorkerDecides m) → ⊥)
     → (i : ℕ) → i < length os → Good m (getD os i blank)
-all-good m os blank-none price-none worker-none i l = below (suc i) (omega arith) i (omega arith)
+all-good m os blank-none test-none price-none worker-none i l = below (suc i) (omega arith) i (omega arith)
   where
     -- of the lines below b, one at a time
     below : (b : ℕ) → b ≤ length os → (j : ℕ) → j < b → Good m (getD os j blank)
@@ -141,8 +166,9 @@ all-good m os blank-none price-none worker-none i l = below (suc i) (omega arith
         next : (o : Order) → ((C : Order → Type 0) → C o → Earliest m os C) → Good m o
         next o at = by-line (λ _. Good m o) m o
             (λ z. absurd (blank-none (at (λ (o : Order). o .key ≡ 0) z)))
-            (λ nz p. absurd (price-none (at (λ (o : Order). (o .key ≢ 0) × Mispriced (o .price)) (nz, p))))
-            (λ nz p l. absurd (worker-none (at (λ (o : Order). (o .key ≢ 0) × Priced (o .price) × (m ≤ o .worker)) (nz, p, l))))
+            (λ t. absurd (test-none (at (λ (o : Order). TestKey (o .key)) t)))
+            (λ nz s p. absurd (price-none (at PriceDecides (nz, s, p))))
+            (λ nz s p l. absurd (worker-none (at (WorkerDecides m) (nz, s, p, l))))
             (λ h. h)
 
 -- ---- the labels of table and list

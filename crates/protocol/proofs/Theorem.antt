@@ -35,7 +35,7 @@ use Rattle.state.specs.declared.Phase.{Phase}
 use Rattle.state.specs.declared.Refusal.{Refusal}
 use Rattle.state.specs.declared.Reply.{Reply}
 use Rattle.state.specs.declared.Reply.the-variants.{Accepted, Refused}
-use Rattle.protocol.specs.Bars.{doing, mispriced}
+use Rattle.protocol.specs.Bars.{doing, addsTest, mispriced}
 use Rattle.protocol.specs.IsWellFormed.{isWellFormed}
 use Rattle.protocol.specs.Calls.{turnNumber, asked, missing, entryFor, closeReply, closeCall, orderReply, orderTo, foundReply, orderCall, turnCheck, movedAt, turnCall}
 use Rattle.protocol.specs.Cases.{Decides}
@@ -47,7 +47,7 @@ use Rattle.protocol.proofs.Calls.{insertSteps, otherSteps, lineOrderSte
 use Rattle.protocol.proofs.Chain.{decides, by-reply, none-accepted}
 use Rattle.protocol.proofs.Frames.{but-self, ordered-starts, shut-ends, moved-others}
 use Rattle.protocol.proofs.Meeting.{moved-stands, moved-undercut, moved-replaced, moved-carries}
-use Rattle.protocol.specs.Lines.{Priced, Good, Fills}
+use Rattle.protocol.specs.Lines.{Priced, ShopKey, Good, Fills}
 use Rattle.protocol.proofs.Lines.{all-good, fills-says}
 use Rattle.protocol.proofs.Opening.{fresh-resting}
 use Rattle.protocol.proofs.WellFormed.{well-formed-says}
@@ -93,9 +93,9 @@ module _ (M : Model) (k m : ℕ) (ab : Hash) (t : List ℕ) (os : List Order) wh
 
   insert-passed : k ≡ 1 → open-answer ≡ 0 → OpenPassed
   insert-passed is z =
-      let (_, (_, (_, (_, (_, (_, (_, (_, (_, (_, (_, (_, none)))))))))))) = insert-decides is in
-      let ((((((((((((_, a), b), c), o), _), d), e), f), x), y), w), few) = none .0 z in
-      record { size = a; crew = b; kind = c; odd = o; sound = none-of d e f; list = λ _. record { lines = all-good m os x y w; room = fewer few } }
+      let (_, (_, (_, (_, (_, (_, (_, (_, (_, (_, (_, (_, (_, none))))))))))))) = insert-decides is in
+      let (((((((((((((_, a), b), c), o), _), d), e), f), x), u), y), w), few) = none .0 z in
+      record { size = a; crew = b; kind = c; odd = o; sound = none-of d e f; list = λ _. record { lines = all-good m os x u y w; room = fewer few } }
     where
       fewer : (Fills t os → ⊥) → size (labels label t ++ orderKeys os) < length t
       fewer none = by-lt (size (labels label t ++ orderKeys os)) (length t) (λ l. l) (λ l. absurd (none (fills-says t os .0 (le-leb _ _ l))))
@@ -191,21 +191,40 @@ module _ (M : Model) (p : Phase) (os : List Order) (i w v : ℕ) where
     pub below : at .worker < p .crew
     pub free : doing p (at .worker) ≡ Idle
     pub key : at .key ≢ 0
+    pub shop : p .kind ≡ 1 → ShopKey (at .key)
     pub price : p .kind ≡ 1 → Priced (at .price)
 
   line-passed : p .kind ≡ 1 → order-answer ≡ 0 → Passed
   line-passed is z =
-      let (_, (_, (_, (_, (_, (_, (_, none))))))) = line-decides is in
-      let (((((((_, formed), running), there), below), free), key), price) = none .0 z in
+      let (_, (_, (_, (_, (_, (_, (_, (_, none)))))))) = line-decides is in
+      let ((((((((_, formed), running), there), below), free), key), shop), price) = none .0 z in
       let e = eq-eqb (p .kind) 1 is in
-      record { formed = formed; running = running; there = λ _. there; below = rw e below; free = rw e free; key = rw e key; price = λ _. rw e price }
+      record {
+        formed = formed;
+        running = running;
+        there = λ _. there;
+        below = rw e below;
+        free = rw e free;
+        key = rw e key;
+        shop = λ _. rw e shop;
+        price = λ _. rw e price;
+      }
 
   handed-passed : p .kind ≢ 1 → order-answer ≡ 0 → Passed
   handed-passed ne z =
       let (_, (_, (_, (_, (_, none))))) = handed-decides ne in
       let (((((_, formed), running), below), free), key) = none .0 z in
       let e = ne-eqb (p .kind) 1 ne in
-      record { formed = formed; running = running; there = λ is. absurd (ne is); below = rw e below; free = rw e free; key = rw e key; price = λ is. absurd (ne is) }
+      record {
+        formed = formed;
+        running = running;
+        there = λ is. absurd (ne is);
+        below = rw e below;
+        free = rw e free;
+        key = rw e key;
+        shop = λ is. absurd (ne is);
+        price = λ is. absurd (ne is);
+      }
 
   pub order-passed : foundReply M p (lineAt os i) w v ≡ Accepted → Passed
   order-passed e =
@@ -231,7 +250,8 @@ order-numbers M p lacks w v cents =
     tested Not-9 (leb (p .crew) w) (λ _ e. omega arith) (λ _.
     tested Not-9 (not (isIdle (doing p w))) (λ _ e. omega arith) (λ _.
     tested Not-9 (eqb v 0) (λ _ e. omega arith) (λ _.
-    tested Not-9 (mispriced (p .kind) cents) (λ _ e. omega arith) (λ _ e. omega arith)))))))
+    tested Not-9 (addsTest (p .kind) v) (λ _ e. omega arith) (λ _.
+    tested Not-9 (mispriced (p .kind) cents) (λ _ e. omega arith) (λ _ e. omega arith))))))))
   where
     Not-9 : Reply → Type 0
     Not-9 r = replyNumber r ≢ 9

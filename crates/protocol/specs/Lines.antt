@@ -19,9 +19,17 @@ Priced cents = (1 ≤ cents) × (cents ≤ 9999999)
 abbrev pub Mispriced : ℕ → Type 0
 Mispriced cents = (cents ≡ 0) ⊎ (9999999 < cents)
 
--- a label, such a price, and a worker below the count
+-- a key that is not for factory tests, and one that is
+abbrev pub ShopKey : ℕ → Type 0
+ShopKey key = key < 4000000000
+
+abbrev pub TestKey : ℕ → Type 0
+TestKey key = 4000000000 ≤ key
+
+-- a label that a shop may add, such a price, and a worker below the count
 pub record Good (m : ℕ) (o : Order) : Type 0 where
   pub key : o .key ≢ 0
+  pub shop : ShopKey (o .key)
   pub price : Priced (o .price)
   pub worker : o .worker < m
 
@@ -33,12 +41,13 @@ pub record Earliest (m : ℕ) (os : List Order) (C : Order → Type 0) : Type 0 
   pub before : (j : ℕ) → j < line → Good m (getD os j blank)
   pub decides : C (getD os line blank)
 
--- label 0 (7), then a price of 0 or above 9,999,999 (14), then a worker number not below the count (6)
+-- label 0 (7), then a label from 4,000,000,000 up (24), then a price of 0 or above 9,999,999 (14), then a worker number not below the count (6)
 abbrev pub lineCases : ℕ → List Order → List Case
 lineCases m os =
     forbids 7 (Earliest m os (λ (o : Order). o .key ≡ 0))
-    ∷ forbids 14 (Earliest m os (λ (o : Order). (o .key ≢ 0) × Mispriced (o .price)))
-    ∷ forbids 6 (Earliest m os (λ (o : Order). (o .key ≢ 0) × Priced (o .price) × (m ≤ o .worker)))
+    ∷ forbids 24 (Earliest m os (λ (o : Order). TestKey (o .key)))
+    ∷ forbids 14 (Earliest m os (λ (o : Order). (o .key ≢ 0) × ShopKey (o .key) × Mispriced (o .price)))
+    ∷ forbids 6 (Earliest m os (λ (o : Order). (o .key ≢ 0) × ShopKey (o .key) × Priced (o .price) × (m ≤ o .worker)))
     ∷ []
 
 -- ---- the labels of table and list together, each counted once, are as many as the cells or more: there are so many different ones

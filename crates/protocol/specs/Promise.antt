@@ -33,7 +33,7 @@ use Rattle.protocol.specs.Bars.{doing}
 use Rattle.protocol.specs.Calls.{turnNumber, closeCall, orderCall, turnCall, turnTable}
 use Rattle.protocol.specs.Cases.{Case, case, wants, forbids, Decides}
 use Rattle.protocol.specs.IsWellFormed.{isWellFormed}
-use Rattle.protocol.specs.Lines.{Priced, Mispriced, Good, lineCases, Fills}
+use Rattle.protocol.specs.Lines.{Priced, Mispriced, ShopKey, TestKey, Good, lineCases, Fills}
 use Rattle.protocol.specs.WellFormed.{Size, Crew, Kind, WellFormed}
 use Rattle.protocol.specs.declared.TurnReply.the-variants.{Answered}
 
@@ -119,7 +119,7 @@ longCases M os = case 16 (length os ≤ M .mostLines) (M .mostLines < length os)
 abbrev pub fullCases : List ℕ → List Order → List Case
 fullCases t os = forbids 9 (Fills t os) ∷ []
 
--- an insert phase (put-in shift): then 16, the table's 4, 17 and 18, the lines' 7, 14 and 6, and 9
+-- an insert phase (put-in shift): then 16, the table's 4, 17 and 18, the lines' 7, 24, 14 and 6, and 9
 abbrev pub insertCases : Model → ℕ → ℕ → Hash → List ℕ → List Order → List Case
 insertCases M k m ab t os = limitCases M k m ab t ++ longCases M os ++ soundCases M ab t ++ lineCases m os ++ fullCases t os
 
@@ -185,17 +185,21 @@ pub record ButFor (w : ℕ) (p q : Phase) : Type 0 where
   pub others : (u : ℕ) → u ≢ w → doing q u ≡ doing p u
 
 -- ---- order
--- of a line number, and of a price: 15, 14
+-- of a line number, of a key that would be added, and of a price: 15, 24, 14
 abbrev pub thereCases : List Order → ℕ → List Case
 thereCases os i = case 15 (i < length os) (length os ≤ i) ∷ []
+
+abbrev pub testCases : ℕ → List Case
+testCases v = case 24 (ShopKey v) (TestKey v) ∷ []
 
 abbrev pub priceCases : ℕ → List Case
 priceCases cents = case 14 (Priced cents) (Mispriced cents) ∷ []
 
--- an insert phase (put-in shift), by line i of the list: 13, 11, 15 and then the line's 6, 8, 7 and 14
+-- an insert phase (put-in shift), by line i of the list: 13, 11, 15 and then the line's 6, 8, 7, 24 and 14
 abbrev pub lineOrderCases : Model → Phase → List Order → ℕ → List Case
 lineOrderCases M p os i =
-    phaseCases M p ++ thereCases os i ++ workerCases p (getD os i blank .worker) (getD os i blank .key) ++ priceCases (getD os i blank .price)
+    phaseCases M p ++ thereCases os i ++ workerCases p (getD os i blank .worker) (getD os i blank .key) ++ testCases (getD os i blank .key)
+    ++ priceCases (getD os i blank .price)
 
 -- any other, by the worker w and the key v handed in: 13, 11, 6, 8, 7
 abbrev pub handedCases : Model → Phase → (w v : ℕ) → List Case

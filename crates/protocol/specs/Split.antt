@@ -45,7 +45,7 @@ module _ (M : Model) (k : ℕ) (ab : Hash) (n : ℕ) (t : List ℕ) (w : Worker)
   oneTable = oneCellsAt (touched (w .activity))
 
 module _ (M : Model) (k : ℕ) (ab : Hash) (n : ℕ) (w : Worker) (v cents : ℕ) where
-  -- refusals 8, 7 and 14
+  -- refusals 8, 7, 24 and 14
   abbrev pub oneReply : Reply
   oneReply = firstOf (workerBars k (w .activity) v cents)
 

@@ -102,6 +102,9 @@ pub record Examples : Type 0 where
   -- of two acknowledgements of one key one is refused
   pub one-of-two : closing 2 plain waiting (ackWith 3 2 ∷ ackWith 3 1 ∷ []) (60 ∷ 61 ∷ []) (70 ∷ 71 ∷ 72 ∷ 73 ∷ [])
       ≡ (0, 3, content 4 5 ∷ 0 ∷ 0 ∷ content 13 70 ∷ content 8 100 ∷ [], 6 ∷ 0 ∷ [], content 4 5 ∷ content 13 70 ∷ content 8 100 ∷ 73 ∷ [])
+  -- a key for factory tests that the lent table has is acknowledged and listed like any other
+  pub tests-lent : closing 1 plain (content 4294967295 7 ∷ content 4000000000 9 ∷ 0 ∷ []) (ackWith 4294967295 0 ∷ ackWith 4294967294 0 ∷ []) (60 ∷ 61 ∷ []) (70 ∷ 71 ∷ [])
+      ≡ (0, 1, 0 ∷ content 4000000000 9 ∷ 0 ∷ [], 0 ∷ 22 ∷ [], content 4000000000 9 ∷ 71 ∷ [])
   -- none acknowledged, and nothing sent
   pub silent : closing 1 plain waiting [] [] six
       ≡ (0, 4, waiting, [], content 4 5 ∷ content 3 100 ∷ content 13 70 ∷ content 8 100 ∷ 74 ∷ 75 ∷ [])
@@ -122,16 +125,24 @@ pub record Examples : Type 0 where
   pub size-first : OpeningGets 1 0 (hashOf 2 0) (5 ∷ []) sent
   pub crew-next : OpeningGets 2 0 (hashOf 2 0) junk sent
   pub even-next : OpeningGets 21 2 (hashOf 2 0) junk (only 0 0 2)
+  pub even-before-test : OpeningGets 21 2 (hashOf 2 0) junk (only 4000000000 0 2)
   pub no-key : OpeningGets 7 2 plain junk (only 0 1 0)
+  pub test-number : OpeningGets 24 2 plain junk (only 4000000000 1 0)
+  pub greatest : OpeningGets 24 2 plain junk (only 4294967295 1 0)
+  pub last-of-a-shop : opening 2 plain junk (only 3999999999 1 0) ≡ (0, 0 ∷ 0 ∷ 0 ∷ 0 ∷ content 3999999999 1 ∷ [])
   pub no-price : OpeningGets 14 2 plain junk (only 3 0 0)
   pub high-price : OpeningGets 14 2 plain junk (only 3 10000000 0)
   pub no-worker : OpeningGets 6 2 plain junk (only 3 1 2)
   -- five keys for five cells
   pub full : OpeningGets 9 2 plain junk (orderWith 5 1 0 ∷ sent)
-  -- 7 before 14 and 6 in one line, 14 before 6; but the earliest line decides; 9 comes last
+  -- 7 before 14 and 6 in one line, 24 before 14 and 6, 14 before 6; but the earliest line decides; 9 comes last
   pub key-first : OpeningGets 7 2 plain junk (only 0 0 2)
+  pub test-next : OpeningGets 24 2 plain junk (only 4000000000 0 2)
   pub price-next : OpeningGets 14 2 plain junk (only 3 0 2)
   pub earliest : OpeningGets 6 2 plain junk (orderWith 3 1 2 ∷ only 0 1 0)
+  pub key-earlier : OpeningGets 7 2 plain junk (orderWith 0 1 0 ∷ only 4000000000 1 0)
+  pub test-earlier : OpeningGets 24 2 plain junk (orderWith 4000000000 1 0 ∷ only 0 1 0)
+  pub test-before-full : OpeningGets 24 2 plain junk (orderWith 4000000000 1 0 ∷ sent)
   pub full-last : OpeningGets 6 2 plain junk (orderWith 5 1 2 ∷ sent)
   -- each refusal of closing
   pub one-cell-closes : ClosingGets 1 2 plain (0 ∷ []) acks seven six

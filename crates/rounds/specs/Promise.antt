@@ -31,7 +31,7 @@ use Rattle.history.specs.Promise.{OfLine}
 use Rattle.rounds.specs.Rounds.{Ack, noAck, acksOf, openRound, sentTable, ackReply, acked, closeRound, tableAfter, answersAfter, listAfter, Opens, Closes}
 
 -- ---- opening
--- 1, 2, 21, 16, then the lines' 7, 14 and 6, and 9 if the labels of an empty table and of the list, each counted once, are as many as the cells or more
+-- 1, 2, 21, 16, then the lines' 7, 24, 14 and 6, and 9 if the labels of an empty table and of the list, each counted once, are as many as the cells or more
 abbrev pub sendCases : Model → ℕ → Hash → List ℕ → List Order → List Case
 sendCases M m ab t os =
     sizeCases M t ++ wants 2 (Crew M m) ∷ evenCases ab ++ longCases M os ++ lineCases m os ++ fullCases (replicate (length t) 0) os

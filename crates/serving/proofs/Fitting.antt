@@ -43,7 +43,7 @@ use Rattle.serving.proofs.Serving.{begins, Fit, kind, crew, hash, order
 pub handed-fit : (p : Phase) → p .kind ≢ 1 → (os : List Order) (i w v : ℕ) → w < p .crew → v ≢ 0 → Fit p os i w v
 handed-fit p ne os i w v l nz =
     let e = ne-eqb (p .kind) 1 ne in
-    record { there = rw e; worker = rw e l; key = rw e nz; price = rw e }
+    record { there = rw e; worker = rw e l; key = rw e nz; shop = rw e; price = rw e }
 
 -- ---- in an insert phase: any line of its list
 pub line-fit : (d : Device) (m : ℕ) (ab : Hash) (os : List Order) (t : List ℕ) (p : Phase) (u : List ℕ) → Served d 1 m ab os t p u → (i : ℕ) → i < length os
@@ -57,6 +57,7 @@ line-fit d m ab os t p u s i l w v =
       there = rw (e, lt-ltb _ _ l);
       worker = rw (e, crew d 1 m ab os t p u s) (good .worker);
       key = rw e (good .key);
+      shop = rw (e, lt-leb _ _ (good .shop));
       price = rw (e, fine);
     }
 

@@ -21,7 +21,7 @@ use Rattle.state.specs.declared.Replied.{Replied}
 use Rattle.state.specs.declared.Reply.{Reply}
 use Rattle.state.specs.declared.Reply.the-variants.{Accepted}
 use Rattle.state.proofs.Model.{gateway-proper}
-use Rattle.protocol.specs.Bars.{doing, mispriced}
+use Rattle.protocol.specs.Bars.{doing, addsTest, mispriced}
 use Rattle.protocol.specs.Calls.{asked, missing, entryFor, foundReply, ordered, orderCall, orderFound, closed, closeReply, closeCall, turnCall, turnTable}
 use Rattle.protocol.specs.IsWellFormed.{isWellFormed}
 use Rattle.protocol.specs.WellFormed.{WellFormed}
@@ -105,6 +105,7 @@ pub record Fit (p : Phase) (os : List Order) (i w v : ℕ) : Type 0 where
   pub there : missing (p .kind) (lineAt os i) ≡ false
   pub worker : asked (p .kind) (lineAt os i) w v .worker < p .crew
   pub key : asked (p .kind) (lineAt os i) w v .key ≢ 0
+  pub shop : addsTest (p .kind) (asked (p .kind) (lineAt os i) w v .key) ≡ false
   pub price : mispriced (p .kind) (asked (p .kind) (lineAt os i) w v .price) ≡ false
 
 module _ (d : Device) (k m : ℕ) (ab : Hash) (os : List Order) (t : List ℕ) (p : Phase) (u : List ℕ) (s : Served d k m ab os t p u) where
@@ -139,7 +140,16 @@ module _ (d : Device) (k m : ℕ) (ab : Hash) (os : List Order) (t : List ℕ) (
   module _ (i w v : ℕ) (fit : Fit p os i w v) where
     accepts : foundReply gateway p (lineAt os i) w v ≡ Accepted
     accepts = let o = asked (p .kind) (lineAt os i) w v in
-        simp (well, s .running, fit .there, lt-leb (p .crew) (o .worker) (fit .worker), s .idle (o .worker), ne-eqb (o .key) 0 (fit .key), fit .price)
+        simp (
+          well,
+          s .running,
+          fit .there,
+          lt-leb (p .crew) (o .worker) (fit .worker),
+          s .idle (o .worker),
+          ne-eqb (o .key) 0 (fit .key),
+          fit .shop,
+          fit .price,
+        )
 
     given : orderFound gateway p (lineAt os i) w v ≡ ordered gateway p (missing (p .kind) (lineAt os i)) (asked (p .kind) (lineAt os i) w v .worker)
         (asked (p .kind) (lineAt os i) w v .key) (asked (p .kind) (lineAt os i) w v .price) Accepted

@@ -33,10 +33,11 @@ puttingIn = record {
       ++ bytesOf "27\tdone\t-\n28\tok\n29\tdone\t-\n30\tok\n31\trefused\t11\n32\t3\t8\t9999999\t4\t1\t6\t5\n";
 }
 
--- Every answer: on, done, a price, no, idle, -, each refusal that a sheet can give (1, 2, 3, 6 to 11, 14, 15, 18; 17 is in the next), and bad, behind
--- which no line is answered. After the sheet before, 8 is taken out, the table is listed while 4 stands twice, and labels are looked up. A sheet gives
--- no 4, since its tables have an empty cell and right prices; no 5, since `cells` in an open shift is bad and a shut one answers 11 first; no 12, since
--- the list lent is as long as the table; no 13, since no record is spoilt; and no 16, since it keeps at most 1,024 items.
+-- Every answer: on, done, a price, no, idle, -, each refusal that a sheet can give (1, 2, 3, 6 to 11, 14, 15, 18; 17 is in the next, 21 in `evenRefused`,
+-- 24 in `testNumbers`), and bad, behind which no line is answered. After the sheet before, 8 is taken out, the table is listed while 4 stands twice, and
+-- labels are looked up. A sheet gives no 4, since its tables have an empty cell and right prices; no 5, since `cells` in an open shift is bad and a shut
+-- one answers 11 first; no 12, since the list lent is as long as the table; no 13, since no record is spoilt; and no 16, since it keeps at most 1,024
+-- items.
 abbrev pub every : Sheet
 every = record {
   input = puttingIn .input
@@ -160,6 +161,14 @@ overpriced = record {
   output = bytesOf "1\tok\n2\tok\n3\tok\n4\trefused\t14\n5\tok\n6\trefused\t14\n7\tok\n";
 }
 
+-- a label for factory tests is refused in a list, here before its price and its worker, and looked up and taken out like any other
+abbrev pub testNumbers : Sheet
+testNumbers = record {
+  input = bytesOf "cells\t2\nitem\t9\t4000000000\t0\nopen\t1\t1\t1\t0\nopen\t3\t1\t1\t0\norder\t0\t4000000000\nrun\nclose\n"
+      ++ bytesOf "open\t2\t1\t1\t0\norder\t0\t4294967295\nrun\nclose\n";
+  output = bytesOf "1\tok\n2\tok\n3\trefused\t24\n4\tok\n5\tok\n6\tno\n7\tok\n8\tok\n9\tok\n10\tdone\n11\tok\n";
+}
+
 -- the earliest line decides, also where a later one has a fault that is asked first; which one that is depends on the worker count
 abbrev pub earliest : Sheet
 earliest = record {
@@ -229,13 +238,13 @@ carriageReturn = record { input = bytesOf "cells\t2\r\nlist\n"; output = bytesOf
 abbrev pub shut : Sheet
 shut = record {
   input = bytesOf "close\norder\norder\t0\norder\t0\t3\norder\t0\t3\t1\norder\t0\t3\t1\t1\nopen\t1\t1\t1\t0\ncells\t4097\ncells\t4096\n"
-      ++ bytesOf "cells\t3\nitem\t0\t4294967295\t9999999\nopen\t1\t2\t1\t0\nrun\norder\t0\nrun\nclose\nclose\norder\t0\norder\t0\t6\nturn\t0\n"
-      ++ bytesOf "cells\t1\nlist\ncells\t4097\nlist\nopen\t3\t1\t1\t0\norder\t0\t4294967295\nturn\t0\norder\t0\t3\nturn\t0\nturn\t0\nclose\n"
+      ++ bytesOf "cells\t3\nitem\t0\t3999999999\t9999999\nopen\t1\t2\t1\t0\nrun\norder\t0\nrun\nclose\nclose\norder\t0\norder\t0\t6\nturn\t0\n"
+      ++ bytesOf "cells\t1\nlist\ncells\t4097\nlist\nopen\t3\t1\t1\t0\norder\t0\t3999999999\nturn\t0\norder\t0\t3\nturn\t0\nturn\t0\nclose\n"
       ++ bytesOf "cells\t4\nlist\n";
   output = bytesOf "1\trefused\t11\n2\trefused\t11\n3\trefused\t11\n4\trefused\t11\n5\trefused\t11\n6\trefused\t11\n7\trefused\t1\n"
       ++ bytesOf "8\trefused\t1\n9\tok\n10\tok\n11\tok\n12\tok\n13\t-\t-\n14\tok\n15\tdone\t-\n16\tok\n17\trefused\t11\n"
-      ++ bytesOf "18\trefused\t11\n19\trefused\t11\n20\trefused\t11\n21\trefused\t1\n22\t1\t4294967295\t9999999\n23\trefused\t1\n"
-      ++ bytesOf "24\t1\t4294967295\t9999999\n25\tok\n26\tok\n27\t9999999\n28\tok\n29\ton\n30\tno\n31\tok\n32\tok\n33\t0\n";
+      ++ bytesOf "18\trefused\t11\n19\trefused\t11\n20\trefused\t11\n21\trefused\t1\n22\t1\t3999999999\t9999999\n23\trefused\t1\n"
+      ++ bytesOf "24\t1\t3999999999\t9999999\n25\tok\n26\tok\n27\t9999999\n28\tok\n29\ton\n30\tno\n31\tok\n32\tok\n33\t0\n";
 }
 
 -- a line that is bad in a shut shift, and in an open one of a kind
@@ -260,7 +269,7 @@ AllPrint (s ∷ ss) = Prints s × AllPrint ss
 -- those that must-fail edits change stand first: computing ends at the first that prints otherwise
 abbrev pub sheets : List Sheet
 sheets =
-    withoutPrice ∷ earliest ∷ seven ∷ grocer ∷ cheapest ∷ carried ∷ document01 ∷ puttingIn ∷ every ∷ gapped ∷ meeting ∷ three ∷ kept ∷ withoutLabel ∷ overpriced
+    withoutPrice ∷ testNumbers ∷ earliest ∷ seven ∷ grocer ∷ cheapest ∷ carried ∷ document01 ∷ puttingIn ∷ every ∷ gapped ∷ meeting ∷ three ∷ kept ∷ withoutLabel ∷ overpriced
     ∷ evenRefused ∷ spread ∷ reopened
     ∷ empty ∷ blankLine ∷ unended ∷ long ∷ carriageReturn ∷ shut
     -- `open` with other numbers than four

@@ -17,15 +17,15 @@ use Rattle.activities.specs.Kinds.{kindOk}
 use Rattle.state.specs.Model.{Model, sizeOk, crewOk}
 use Rattle.state.specs.Refusals.{Bar, if, unless, firstOf}
 use Rattle.state.specs.declared.Phase.{Phase}
-use Rattle.state.specs.declared.Refusal.the-variants.{Size, Crew, Kind, Unsound, NoWorker, Blank, Full, WrongPrice, LongList, Gap, Disorder, Even}
+use Rattle.state.specs.declared.Refusal.the-variants.{Size, Crew, Kind, Unsound, NoWorker, Blank, Full, WrongPrice, LongList, Gap, Disorder, Even, TestNumber}
 use Rattle.state.specs.declared.Replied.{Replied}
 use Rattle.state.specs.declared.Reply.{Reply}
 use Rattle.state.specs.declared.Reply.the-variants.{Accepted, Refused}
 
 -- ---- refusals of the list of orders
--- by the number of what is wrong with a line: 7, 14 or 6
+-- by the number of what is wrong with a line: 7, 24, 14 or 6
 abbrev pub faultBars : ℕ → List Bar
-faultBars fault = if (eqb fault 7) Blank ∷ if (eqb fault 14) WrongPrice ∷ if (eqb fault 6) NoWorker ∷ []
+faultBars fault = if (eqb fault 7) Blank ∷ if (eqb fault 24) TestNumber ∷ if (eqb fault 14) WrongPrice ∷ if (eqb fault 6) NoWorker ∷ []
 
 -- of the lines, for a crew of m workers
 abbrev pub lineBars : ℕ → List Order → List Bar
@@ -61,8 +61,8 @@ module _ (M : Model) where
   tableBars ab t = sizeBars t ++ hashBars ab ++ soundBars ab t
 
   module _ (k m : ℕ) (ab : Hash) (t : List ℕ) where
-    -- ---- 1, 2, 3, 21, in that order; then of an insert phase (put-in shift), which alone reads the list: 16, the table's 4, 17 and 18, the lines' 7, 14
-    -- and 6, 9; of the others the table's
+    -- ---- 1, 2, 3, 21, in that order; then of an insert phase (put-in shift), which alone reads the list: 16, the table's 4, 17 and 18, the lines' 7, 24,
+    -- 14 and 6, 9; of the others the table's
     abbrev pub limitBars : List Bar
     limitBars = sizeBars t ++ unless (crewOk M m) Crew ∷ unless (kindOk k) Kind ∷ hashBars ab
 

@@ -30,6 +30,6 @@ module _ (M : Model) (k m : ℕ) (ab : Hash) (t : List ℕ) (lines : ℕ) where
       (cond (crewOk M m) (cond (isEven ab) false (cond (ltb (M .mostLines) lines) false (isAccepted (firstOf (soundBars M ab t))))) false) false)
       false
 
--- then the lines' 7, 14 and 6 by their number, and 9
+-- then the lines' 7, 24, 14 and 6 by their number, and 9
 abbrev pub lateBars : ℕ → Bool → List Bar
 lateBars fault full = faultBars fault ++ if full Full ∷ []

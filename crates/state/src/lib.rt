@@ -26,7 +26,8 @@ ghost use Rattle.state.specs.Stages.{readsList, earlyBars, lateBars};
 // Why a call is refused: the words of document 01's table, in its order, then the numbers of document 02.
 // `Unsound` is a table without an empty cell or with a cell that is wrong by itself, `Gap` and `Disorder` one whose labels break the way rule.
 // `BadRecord` is a record of a till list that breaks the grammar or has not two fields, `BadField` one with a field that is no number. `Even` is an even a.
-// `Absent` is a reply of a round whose label is not in the lent table. `Unfit` is a new table that cannot take what the old one holds.
+// `Absent` is a reply of a round whose label is not in the lent table. `Unfit` is a new table that cannot take what the old one holds. `TestNumber` is a label
+// for factory tests, in an order that would put it in.
 pub enum Refusal {
     Size,
     Crew,
@@ -51,6 +52,7 @@ pub enum Refusal {
     Even,
     Absent,
     Unfit,
+    TestNumber,
 }
 
 impl Refusal {
@@ -82,6 +84,7 @@ impl Refusal {
             Refusal::Even => 21,
             Refusal::Absent => 22,
             Refusal::Unfit => 23,
+            Refusal::TestNumber => 24,
         }
     }
 }
@@ -329,6 +332,9 @@ impl Phase {
     {
         if fault == 7 {
             return Self::refused(Refusal::Blank);
+        }
+        if fault == 24 {
+            return Self::refused(Refusal::TestNumber);
         }
         if fault == 14 {
             return Self::refused(Refusal::WrongPrice);

@@ -1,11 +1,11 @@
 //! Replies to a round.
 
-use super::{labels_of, Rng};
+use super::{labels_of, test_label, Rng};
 use crate::round::Reply;
 
 /// Replies to a round of `crew` workers on a table: for all its labels, some or
-/// none of them, some more than once, and for others from 1 to `most`. Some are
-/// for label 0, or by a worker that there isn't, or both.
+/// none of them, some more than once, and for others from 1 to `most` or test
+/// numbers. Some are for label 0, or by a worker that there isn't, or both.
 pub fn replies(rng: &mut Rng, table: &[u64], crew: usize, most: usize) -> Vec<Reply> {
     let mut labels = labels_of(table);
     rng.shuffle(&mut labels);
@@ -20,7 +20,10 @@ pub fn replies(rng: &mut Rng, table: &[u64], crew: usize, most: usize) -> Vec<Re
         }
     }
     for _ in 0..rng.pick(&[0, 0, 1, 2, 5]) {
-        labels.push(rng.within(1, most) as u32);
+        labels.push(match rng.once_in(6) {
+            true => test_label(rng),
+            false => rng.within(1, most) as u32,
+        });
     }
     rng.shuffle(&mut labels);
     let faults = rng.pick(&[4, 16, 1_000_000]);

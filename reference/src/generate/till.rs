@@ -1,18 +1,20 @@
 //! Random till texts, good and damaged, and all short ones.
 
 use super::{all_lists, Rng};
+use crate::phase::FIRST_TEST_LABEL;
 
 /// A label and a price.
 pub type Record = (u32, u32);
 
 const CRLF: &[u8] = b"\r\n";
 
-/// A number with 1 to 10 digits, each as often; the least and the greatest now
-/// and then.
+/// A number with 1 to 10 digits, each as often; the least, the greatest, and those
+/// around the least test number now and then.
 pub fn number(rng: &mut Rng) -> u32 {
-    match rng.below(12) {
+    match rng.below(13) {
         0 => 0,
         1 => u32::MAX - rng.below(2) as u32,
+        2 => FIRST_TEST_LABEL - rng.below(2) as u32,
         _ => {
             let digits = rng.within(1, 10) as u32;
             let greatest = (10u64.pow(digits) - 1).min(u32::MAX.into());

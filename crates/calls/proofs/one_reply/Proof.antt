@@ -13,8 +13,8 @@ returns c = simp (sym (c .before .is-idle .ensures) ∙ not-true _ (c .if1 .take
 returns-2 : tie.Need-returns-2
 returns-2 c = simp (sym (c .before .before .is-idle .ensures) ∙ not-false _ (c .before .if1 .left), eq-eqb _ _ (c .if2 .taken))
 
-is-mispriced-requires : tie.Need-is-mispriced-requires
-is-mispriced-requires c κs = search needs
+adds-test-requires : tie.Need-adds-test-requires
+adds-test-requires c κs = search needs
 
 returns-3 : tie.Need-returns-3
 returns-3 c =
@@ -22,16 +22,32 @@ returns-3 c =
     simp (
       sym (b .before .is-idle .ensures) ∙ not-false _ (b .if1 .left),
       ne-eqb _ _ (c .before .before .if2 .left),
-      sym (c .before .is-mispriced .ensures) ∙ c .if3 .taken,
+      sym (c .before .adds-test .ensures) ∙ c .if3 .taken,
     )
+
+is-mispriced-requires : tie.Need-is-mispriced-requires
+is-mispriced-requires c κs = search needs
 
 returns-4 : tie.Need-returns-4
 returns-4 c =
-    let b = c .before .before .before in
+    let a = c .before .before in
+    let b = a .before .before .before in
     simp (
       sym (b .before .is-idle .ensures) ∙ not-false _ (b .if1 .left),
-      ne-eqb _ _ (c .before .before .if2 .left),
-      sym (c .before .is-mispriced .ensures) ∙ c .if3 .left,
+      ne-eqb _ _ (a .before .before .if2 .left),
+      sym (a .before .adds-test .ensures) ∙ a .if3 .left,
+      sym (c .before .is-mispriced .ensures) ∙ c .if4 .taken,
+    )
+
+returns-5 : tie.Need-returns-5
+returns-5 c =
+    let a = c .before .before in
+    let b = a .before .before .before in
+    simp (
+      sym (b .before .is-idle .ensures) ∙ not-false _ (b .if1 .left),
+      ne-eqb _ _ (a .before .before .if2 .left),
+      sym (a .before .adds-test .ensures) ∙ a .if3 .left,
+      sym (c .before .is-mispriced .ensures) ∙ c .if4 .left,
     )
 
 pub one-reply-spec : {M : Type 1} → statement M
@@ -41,6 +57,8 @@ one-reply-spec =
     is-idle-requires
     returns
     returns-2
-    is-mispriced-requires
+    adds-test-requires
     returns-3
-    returns-4)
+    is-mispriced-requires
+    returns-4
+    returns-5)

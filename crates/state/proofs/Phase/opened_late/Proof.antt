@@ -37,10 +37,24 @@ returns-4 : tie.Need-returns-4
 returns-4 c =
     simp (
       c .refused4 .ensures,
-      c .before .if4 .taken,
+      eq-eqb _ _ (c .before .if4 .taken),
       ne-eqb _ _ (c .before .before .if3 .left),
       ne-eqb _ _ (c .before .before .before .if2 .left),
       ne-eqb _ _ (c .before .before .before .before .if1 .left),
+    )
+
+refused-requires-5 : tie.Need-refused-requires-5
+refused-requires-5 c κs = search needs
+
+returns-5 : tie.Need-returns-5
+returns-5 c =
+    simp (
+      c .refused5 .ensures,
+      c .before .if5 .taken,
+      ne-eqb _ _ (c .before .before .if4 .left),
+      ne-eqb _ _ (c .before .before .before .if3 .left),
+      ne-eqb _ _ (c .before .before .before .before .if2 .left),
+      ne-eqb _ _ (c .before .before .before .before .before .if1 .left),
     )
 
 cast-fresh : tie.Need-cast-fresh
@@ -52,15 +66,16 @@ cast-fresh-2 c = search needs
 fresh-requires : tie.Need-fresh-requires
 fresh-requires c κs = search needs
 
-returns-5 : tie.Need-returns-5
-returns-5 c =
-    let a = c .before .before .before .before .before .before .args in
+returns-6 : tie.Need-returns-6
+returns-6 c =
+    let a = c .before .before .before .before .before .before .before .args in
     open-accepted gateway 1 (a .crew) (a .hash) (a .cells .now) (lateBars (a .fault) (a .full)) _ (c .fresh .ensures)
     (simp (
-      c .before .if4 .left,
-      ne-eqb _ _ (c .before .before .if3 .left),
-      ne-eqb _ _ (c .before .before .before .if2 .left),
-      ne-eqb _ _ (c .before .before .before .before .if1 .left),
+      c .before .if5 .left,
+      ne-eqb _ _ (c .before .before .if4 .left),
+      ne-eqb _ _ (c .before .before .before .if3 .left),
+      ne-eqb _ _ (c .before .before .before .before .if2 .left),
+      ne-eqb _ _ (c .before .before .before .before .before .if1 .left),
     ))
 
 pub opened-late-spec : {M : Type 1} → statement M
@@ -75,7 +90,9 @@ opened-late-spec =
     returns-3
     refused-requires-4
     returns-4
+    refused-requires-5
+    returns-5
     cast-fresh
     cast-fresh-2
     fresh-requires
-    returns-5)
+    returns-6)
