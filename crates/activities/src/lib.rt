@@ -1,9 +1,10 @@
 // What a worker of a phase may be doing. No functions: the definitions are in specs/.
+#![tactic(auto)]
 
 // What a worker is doing, each activity with its own numbers. An entry is a key with a price, as a cell holds it (document 02: label times 2^32 plus
 // price). Insert carries it whole; find and delete go by its key, and delete remembers with it what it read in a cell. The variants' fields are in an
 // order that makes a worker 32 bytes.
-#[derive(Drop)]
+#[derive(Clone, Copy)]
 pub enum Activity {
     Idle,
     // Reads on from the home of the key of `entry`, now at `cell`.
@@ -40,7 +41,7 @@ pub enum Activity {
     },
 }
 
-#[derive(Drop)]
+#[derive(Clone, Copy)]
 pub struct Worker {
     pub activity: Activity,
 }

@@ -39,3 +39,6 @@ counts_end orders i t count limit l = (no_keys t count limit (ordered_keys (drop
 pub counts-verdict : (cells : List ℕ) (orders : List Order) (count : ℕ) → length cells ≤ 8192 → count ≡ all cells orders
     → leb (length cells) count ≡ leb (length cells) (size (labels label cells ++ ordered_keys orders))
 counts-verdict cells orders count l e = ap (leb (length cells)) e ∙ crowded-keys (length cells) l (labels label cells ++ ordered_keys orders)
+
+-- for the check
+pub ruleset count_rules = (counts_start, counts-more, counts_end, counts-verdict)

@@ -1,4 +1,6 @@
 // The same count over a lent list of orders (document 02, point 2: refusal 9).
+#![tactic(auto)]
+
 ghost use Rattle.std.specs.Prelude.{◌≡◌, ◌++◌, ◌≤◌, leb, length};
 ghost use Rattle.layout.specs.Layout.{size};
 ghost use Rattle.prices.specs.Priced.{labels};
@@ -9,6 +11,7 @@ use distinct::{mark, mark_cells};
 use orders::Order;
 
 // Whether the labels of the table and of the orders together, each counted once, are as many as the cells or more.
+#[tactic(auto, using(crate::proofs::Counts::count_rules))]
 pub fn lines_crowded(cells: &[u64], orders: &[Order]) -> bool
     requires { length cells.now ≤ 8192 }
     ensures { result ≡ leb (length cells.now) (size (labels label cells.now ++ ordered_keys orders.now)) }

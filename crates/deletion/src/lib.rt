@@ -1,4 +1,6 @@
 // The steps of a delete.
+#![tactic(auto, using(std::proofs::lemmas::Bool::Decides::nat_tests), unfolding(rule::specs::Rule::fits, rule::specs::Rule::narrow, rule::specs::Rule::delete_step))]
+
 ghost use Rattle.std.specs.Prelude.{◌≡◌, ℕ, ◌<◌};
 ghost use Rattle.homes.specs.Homes.{spread};
 ghost use Rattle.prices.specs.Contents.{label};

@@ -1,11 +1,11 @@
 -- How many distinct keys a list has with one more.
-use mathlib.Core.Path.{◌≡◌, refl, ap}
+use mathlib.Core.Path.{◌≡◌, ap}
 use mathlib.Core.Logic.{◌≢◌, inl, inr, ⊎_elim}
-use mathlib.Core.List.{List, [], ◌∷◌, ◌++◌}
-use Prim.Native.Nat.{ℕ, zero, suc, ◌≤◌}
+use mathlib.Core.List.{List, ◌∷◌, ◌++◌}
+use Prim.Native.Nat.{ℕ, ◌≤◌}
 use lib.ListN.{length}
-use Rattle.layout.specs.Layout.{In, descending, size}
-use Rattle.layout.proofs.Sets.{same-descending, in-descending, subset-size, in-append}
+use Rattle.layout.specs.Layout.{In, size}
+use Rattle.layout.proofs.Sets.{same-descending, subset-size, in-append}
 
 pub size-old : (x : ℕ) (xs : List ℕ) → (x ≢ 0 → In x xs) → size (x ∷ xs) ≡ size xs
 size-old x xs there = ap length (same-descending (x ∷ xs) xs (λ y nz. (⊎_elim (λ (e : y ≡ x). rw e (there (rw (← e) nz))) (λ i. i), inr)))

@@ -189,7 +189,8 @@ module _ (t ds : List ℕ) (c y : ℕ) (kept : Kept t ds c) where
           record { number = n.number; made = omega (arith, n.made); is = o ∙ n.is });
       used = λ i l. by-eq i c
           (λ w. rw (w, key-there) (nz, inl refl))
-          (λ ne. let k = kept.used i (omega arith) in rw (old-key i ne) (k.0, inr k.1));
+          (λ ne. let k = kept.used i (omega arith) in
+          subst (λ (w : ℕ). (w ≢ 0) × In w (y ∷ ds)) (sym (old-key i ne)) (k.0, inr k.1));
       fresh = λ i l m. old-key i (λ w. omega arith) ∙ kept.fresh i (omega arith) m;
       has = λ z zn i. ⊎_elim
           (λ (w : z ≡ y). rw w (rw (same-link t ds c y kept grown extends hit) hit))

@@ -1,6 +1,8 @@
 // Whether the labels of a table and of a list of labels together, each counted once, are as many as the cells or more (document 02, point 2: refusal 9).
 // The keys (labels) met so far stand in a hash trie in a local array, so that no choice of labels makes the count slow: two different keys part within 32
 // links.
+#![tactic(auto)]
+
 ghost use Rattle.std.specs.Prelude.{◌≡◌, ◌++◌, ◌<◌, ◌≤◌, leb, length};
 ghost use Rattle.layout.specs.Layout.{size};
 ghost use Rattle.prices.specs.Priced.{labels};
@@ -10,6 +12,7 @@ ghost use Rattle.distinct.specs.Trie.{root_of, link_of, counted, marked, total, 
 use prices::PRICES;
 
 // The cell where the search for a key begins.
+#[tactic(auto, unfolding(crate::specs::Trie::root_of))]
 fn root_of(key: u32) -> u32
     ensures { (result ≡ root_of key) × (result < 16384) }
 {
@@ -39,6 +42,7 @@ fn link_of(trie: &[u32; 40960], key: u32) -> usize
 }
 
 // The key is counted and gets a node, unless it has one or the limit is reached.
+#[tactic(auto, using(std::proofs::lemmas::Bool::Decides::nat_tests), unfolding(crate::specs::Trie::counted, crate::specs::Trie::marked))]
 pub fn mark(trie: &mut [u32; 40960], count: usize, limit: usize, key: u32) -> usize
     requires { limit ≤ 8192 }
     ensures { (result ≡ counted trie.old count limit key) × (trie.new ≡ marked trie.old count limit key) }

@@ -1,4 +1,6 @@
 // Which activities a worker may have, and which phase states are well formed.
+#![tactic(auto, using(std::proofs::lemmas::Bool::Decides::nat_tests))]
+
 ghost use Rattle.std.specs.Prelude.{◌≡◌, false, cond, [], ◌∷◌, eqb};
 ghost use Rattle.prices.specs.Contents.{label};
 ghost use Rattle.activities.specs.Activities.{is_idle, all_below, activity_ok};
@@ -143,6 +145,7 @@ pub fn worker_ok(kind: u32, length: u32, active: bool, activity: Activity) -> bo
 }
 
 // Whether a phase is not spoilt, in document 01's word, to a model.
+#[tactic(auto, using(crate::proofs::Walking::formed_rules))]
 pub fn is_well_formed(device: Device, phase: Phase) -> bool
     ensures { result ≡ is_well_formed (model_of device) phase }
 {
@@ -162,6 +165,7 @@ pub fn is_well_formed(device: Device, phase: Phase) -> bool
 }
 
 // Whether all workers are idle.
+#[tactic(auto, using(crate::proofs::Walking::idle_rules))]
 pub fn all_idle(workers: [Worker; Phase::ROOM]) -> bool
     ensures { result ≡ all_idle workers }
 {

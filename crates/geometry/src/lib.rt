@@ -1,4 +1,6 @@
 // The ring of cells: the neighbours of a cell, and distances.
+#![tactic(auto, using(std::proofs::lemmas::Bool::Decides::nat_tests), unfolding(ring::specs::Ring::wrap, ring::specs::Ring::prev, ring::specs::Ring::dist))]
+
 ghost use Rattle.std.specs.Prelude.{◌≡◌, ◌<◌};
 ghost use Rattle.ring.specs.Ring;
 

@@ -1,9 +1,11 @@
 // The home of a key: by the two numbers a and b of document 02, point 6. This is the one place where it is computed.
+#![tactic(auto)]
+
 ghost use Rattle.std.specs.Prelude.{◌≡◌, ◌<◌};
 ghost use Rattle.homes.specs.Homes.{spread, is_even};
 
 // The hash function of a table: a times a key plus b, modulo 2^32.
-#[derive(Drop)]
+#[derive(Clone, Copy)]
 pub struct Hash {
     pub a: u32,
     pub b: u32,

@@ -4,7 +4,7 @@ use mathlib.Core.Bool.{cond}
 use mathlib.Core.List.{List, []}
 use Prim.Native.Nat.{ℕ, ◌+◌, ◌<◌}
 use lib.Dec.{eqb}
-use lib.ListN.{length, get_or, drop}
+use lib.ListN.{length, get_or, drop, drop_of_length-le}
 use borrow.Author.Tests.{eq-eqb, ne_eqb}
 use Rattle.ring.proofs.Split.{by-eq}
 use Rattle.orders.specs.declared.Order.{Order}
@@ -23,3 +23,6 @@ fault-more m os i fault l =
 pub fault-end : (m fault : ℕ) → after m fault [] ≡ fault
 unfolding lines_fault
 fault-end m fault = by-eq fault 0 (λ e. rw (eq-eqb fault 0 e) (sym e)) (λ n. rw (ne_eqb fault 0 n))
+
+-- for the check
+pub ruleset fault_rules = (fault-more, fault-end, drop_of_length-le)

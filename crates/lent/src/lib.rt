@@ -1,4 +1,6 @@
 // Lists of orders that are lent as slices of orders: a line by its number, and the check of the lines.
+#![tactic(auto)]
+
 ghost use Rattle.std.specs.Prelude.{◌≡◌, true, false, cond, eqb};
 ghost use Rattle.orders.specs.Orders.{blank, line_at, line_fault, lines_fault};
 
@@ -29,6 +31,7 @@ pub fn no_line() -> Found
 }
 
 // What the list has at line `i`.
+#[tactic(auto, using(parallel::proofs::Lines::found_rules))]
 pub fn line_at(orders: &[Order], i: usize) -> Found
     ensures { result ≡ line_at orders.now i }
 {
@@ -39,6 +42,7 @@ pub fn line_at(orders: &[Order], i: usize) -> Found
 }
 
 // What was found earlier, or else what is wrong with the next line.
+#[tactic(auto, using(std::proofs::lemmas::Bool::Decides::nat_tests))]
 fn fault_after(fault: u32, order: Order, crew: u32) -> u32
     ensures { result ≡ cond (eqb fault 0) (line_fault crew order) fault }
 {
@@ -49,6 +53,7 @@ fn fault_after(fault: u32, order: Order, crew: u32) -> u32
 }
 
 // What is wrong with the earliest line that is not good, by its number; 0 if all are good.
+#[tactic(auto, using(crate::proofs::Faults::fault_rules))]
 pub fn lines_fault(orders: &[Order], crew: u32) -> u32
     ensures { result ≡ lines_fault crew orders.now }
 {

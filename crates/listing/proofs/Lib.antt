@@ -1,1 +1,4 @@
 pub mod Down
+pub mod Left
+pub mod Pairs
+pub mod Pass

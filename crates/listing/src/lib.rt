@@ -1,4 +1,6 @@
 // The entries of a table in cell order, by occupancy words (document 01: taken words): a group is listed as soon as its word is made.
+#![tactic(auto)]
+
 ghost use Rattle.std.specs.Prelude.{◌≡◌, ◌≤◌, ◌<◌, length};
 ghost use Rattle.std.specs.Int.Count.{ones};
 ghost use Rattle.words.specs.Words.{taken, occupied, filled, groups, group, word_of, count_of};

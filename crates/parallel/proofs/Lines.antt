@@ -11,6 +11,7 @@ use borrow.Author.Tests.{lt-ltb, le-ltb, eq-eqb, ne_eqb}
 use Rattle.orders.specs.declared.Found.{Found}
 use Rattle.orders.specs.declared.Order.{Order}
 use Rattle.orders.specs.Orders.{blank, line_at, line_fault, lines_fault}
+use Rattle.parallel.proofs.Parallel.{orders-length, order-at}
 
 abbrev pub found : Order → Found
 found o = record { there = true; order = o }
@@ -50,3 +51,8 @@ module _ (m : ℕ) (os : List Order) (i : ℕ) where
     -- and else those behind it
     pub fault-passes : fault ≡ 0 → lines_fault m (drop (i + 1) os) ≡ lines_fault m (drop i os)
     fault-passes z = sym (lines-fault-at m os i l ∙ simp (sym at-line, eq-eqb fault 0 z))
+
+-- for the check: a line by its number, and the loop over the lines
+pub ruleset found_rules = (line-found, line-missing, orders-length, order-at)
+
+pub ruleset fault_rules = (fault-ends, fault-stops, fault-passes)

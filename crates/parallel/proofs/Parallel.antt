@@ -41,3 +41,6 @@ orders-snoc [] (x ∷ ps) ws k p w e f = absurd (omega arith)
 orders-snoc (v ∷ ks) [] ws k p w e f = absurd (omega arith)
 orders-snoc (v ∷ ks) (x ∷ ps) [] k p w e f = absurd (omega arith)
 orders-snoc (v ∷ ks) (x ∷ ps) (y ∷ ws) k p w e f = ap (λ (r : List Order). order_with v x y ∷ r) (orders-snoc ks ps ws k p w (omega arith) (omega arith))
+
+-- for the check: how many lines there are, and line i
+pub ruleset line_rules = (orders-length, order-at)

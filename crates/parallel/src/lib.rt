@@ -1,4 +1,6 @@
 // Lists of orders that are lent as three slices of numbers: the keys, the prices and the workers. Batches of calls and the sheet lend theirs so.
+#![tactic(auto)]
+
 ghost use Rattle.std.specs.Prelude.{◌≡◌, min, length};
 ghost use Rattle.orders.specs.Orders.{line_at, line_fault, lines_fault, orders_of};
 
@@ -12,6 +14,7 @@ pub fn least(a: usize, b: usize) -> usize
 }
 
 // How many lines the list has.
+#[tactic(auto, using(crate::proofs::Parallel::line_rules))]
 pub fn lines_of(keys: &[u32], prices: &[u32], workers: &[u32]) -> usize
     ensures { result ≡ length (orders_of keys.now prices.now workers.now) }
 {
@@ -19,6 +22,7 @@ pub fn lines_of(keys: &[u32], prices: &[u32], workers: &[u32]) -> usize
 }
 
 // What the list has at line `i`.
+#[tactic(auto, using(crate::proofs::Lines::found_rules))]
 pub fn line_of(keys: &[u32], prices: &[u32], workers: &[u32], i: usize) -> Found
     ensures { result ≡ line_at (orders_of keys.now prices.now workers.now) i }
 {
@@ -45,6 +49,7 @@ pub fn line_of(keys: &[u32], prices: &[u32], workers: &[u32], i: usize) -> Found
 }
 
 // The number of what is wrong with a line, for a crew of `crew` workers; 0 if nothing is.
+#[tactic(auto, using(std::proofs::lemmas::Bool::Decides::nat_tests), unfolding(orders::specs::Orders::line_fault))]
 pub fn line_fault(order: Order, crew: u32) -> u32
     ensures { result ≡ line_fault crew order }
 {
@@ -67,6 +72,7 @@ pub fn line_fault(order: Order, crew: u32) -> u32
 }
 
 // What is wrong with the earliest line that is not good, by its number; 0 if all are good.
+#[tactic(auto, using(crate::proofs::Lines::fault_rules))]
 pub fn fault_of(keys: &[u32], prices: &[u32], workers: &[u32], crew: u32) -> u32
     ensures { result ≡ lines_fault crew (orders_of keys.now prices.now workers.now) }
 {

@@ -1,5 +1,7 @@
 // The steps of an insert and of a find, and what all steps share: the touched cell, and the outcomes.
 // No home is computed here: what a step does is the same for every home rule.
+#![tactic(auto, using(std::proofs::lemmas::Bool::Decides::nat_tests), unfolding(rule::specs::Rule::settled, rule::specs::Rule::absorbed, rule::specs::Rule::insert_step, rule::specs::Rule::find_step))]
+
 ghost use Rattle.std.specs.Prelude.{◌≡◌, ℕ, ◌<◌};
 ghost use Rattle.ring.specs.Ring;
 ghost use Rattle.prices.specs.Contents;

@@ -34,6 +34,7 @@ right x (inr (inl e)) nz = absurd (nz (ap label e))
 right x (inr (inr (inl e))) nz = absurd (nz (ap label e))
 right x (inr (inr (inr (inl e)))) nz = rw e tt
 right x (inr (inr (inr (inr (inl e))))) nz = rw e tt
+right x (inr (inr (inr (inr (inr h))))) nz = elim h [ ]
 
 sound : SoundTable 5 (modulo 5) five
 sound = subst (λ (t : List ℕ). SoundTable 5 (modulo 5) t) own (contents.laid 5 (modulo 5) inside five few right)
@@ -48,6 +49,7 @@ lacks (inr (inl e)) = omega arith
 lacks (inr (inr (inl e))) = omega arith
 lacks (inr (inr (inr (inl e)))) = omega arith
 lacks (inr (inr (inr (inr (inl e))))) = omega arith
+lacks (inr (inr (inr (inr (inr h))))) = elim h [ ]
 
 pub examples : Examples
 unfolding count first dist probe wrap descending into layout place_all place lesser least listed without_labels

@@ -1,8 +1,10 @@
 // The worker's rule: the types of a step here, the rule and lists of steps as definitions in specs/, examples in proofs/.
+#![tactic(auto)]
+
 use activities::Activity;
 
 // What a step answers.
-#[derive(Drop)]
+#[derive(Clone, Copy)]
 pub enum Answer {
     WentOn,
     Finished,
@@ -13,7 +15,7 @@ pub enum Answer {
 }
 
 // What a step makes of the activity and of the content of the cell that it touches.
-#[derive(Drop)]
+#[derive(Clone, Copy)]
 pub struct Outcome {
     pub activity: Activity,
     pub content: u64,
@@ -21,7 +23,7 @@ pub struct Outcome {
 }
 
 // The cell that a step touches.
-#[derive(Drop)]
+#[derive(Clone, Copy)]
 pub enum Place {
     Nowhere,
     At(u32),

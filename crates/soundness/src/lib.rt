@@ -1,5 +1,7 @@
 // Why a table is unsound, in time linear in its cells.
 // Each cell has a link: how many cells right before it are known to hold greater labels. A search back from a cell jumps over these.
+#![tactic(auto)]
+
 ghost use Rattle.std.specs.Prelude.{◌≡◌, false, ℕ, suc, ◌≤◌, ◌<◌, eqb, length, get_or};
 ghost use Rattle.homes.specs.Homes.{spread};
 ghost use Rattle.ring.specs.Each.{all, some};
@@ -15,7 +17,7 @@ use prices::{HIGHEST, PRICES};
 
 // What is wrong with a table: nothing; it has no empty cell, or a cell that is wrong by itself; or in the lowest-numbered cell whose label breaks the order,
 // that label meets an empty cell first, or a label.
-#[derive(Drop)]
+#[derive(Clone, Copy)]
 pub enum Flaw {
     None,
     Cells,

@@ -11,6 +11,7 @@ use Rattle.soundness.specs.Flaw.{flaw_of}
 use Rattle.soundness.specs.declared.Flaw.{Flaw}
 use Rattle.soundness.specs.declared.Flaw.TheVariants as flaw
 use Rattle.state.specs.Model.{Model, size_ok}
+use Rattle.state.proofs.Model.{cells-bounded}
 use Rattle.state.specs.Open.{sound_bars, table_bars}
 use Rattle.state.specs.Refusals.{if, unless, first_of}
 use Rattle.state.specs.declared.Refusal.TheVariants.{Size, Unsound, Gap, Disorder, Even}
@@ -44,3 +45,8 @@ module _ (M : Model) (ab : Hash) (t : List ℕ) where
 
   pub hash-passed : size_ok M (length t) ≡ true → is_even ab ≡ false → first_of (table_bars M ab t) ≡ first_of (sound_bars M ab t)
   hash-passed e f = rw (e, f)
+
+-- for the check: the table's reply, and the whole
+pub ruleset flaw_rules = (flaw-reply)
+
+pub ruleset check_rules = (size-refused, hash-refused, hash-passed, cells-bounded)

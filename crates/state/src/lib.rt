@@ -1,4 +1,6 @@
 // The phase state (document 01: shift record) with its limits and its opening, and the refusals.
+#![tactic(auto, using(std::proofs::lemmas::Bool::Decides::nat_tests))]
+
 ghost use Rattle.std.specs.Prelude.{◌≤◌, false, cond, ◌≡◌, ltb, eqb, length};
 ghost use Rattle.orders.specs.Orders.{orders_of};
 ghost use Rattle.activities.specs.Kinds.{kind_ok};
@@ -21,7 +23,7 @@ use soundness::{Flaw, flaw_of};
 // `BadRecord` is a record of a till list that breaks the grammar or has not two fields, `BadField` one with a field that is no number. `Even` is an even a.
 // `Absent` is a reply of a round whose label is not in the lent table. `Unfit` is a new table that cannot take what the old one holds. `TestNumber` is a label
 // for factory tests, in an order that would put it in.
-#[derive(Drop)]
+#[derive(Clone, Copy)]
 pub enum Refusal {
     Size,
     Crew,
@@ -84,28 +86,28 @@ impl Refusal {
 }
 
 // The answer of a call that gives no value.
-#[derive(Drop)]
+#[derive(Clone, Copy)]
 pub enum Reply {
     Accepted,
     Refused(Refusal),
 }
 
 // The answer of a call that gives a count.
-#[derive(Drop)]
+#[derive(Clone, Copy)]
 pub enum Counted {
     Count(usize),
     Refused(Refusal),
 }
 
 // The models of the gateway. Each call is told for which of them it is made: they differ in their limits alone.
-#[derive(Drop)]
+#[derive(Clone, Copy)]
 pub enum Device {
     Gateway,
     Kiosk,
 }
 
 // The state of a phase, in either model. Its hash function, by which the homes of keys are computed, is that of the opening.
-#[derive(Drop)]
+#[derive(Clone, Copy)]
 pub struct Phase {
     pub kind: u32,
     pub length: u32,
@@ -116,7 +118,7 @@ pub struct Phase {
 }
 
 // A phase with the answer of the call that gave it.
-#[derive(Drop)]
+#[derive(Clone, Copy)]
 pub struct Replied {
     pub phase: Phase,
     pub reply: Reply,
@@ -229,6 +231,7 @@ impl Phase {
     }
 
     // Whether the table is sound or, if it is not, why.
+    #[tactic(auto, using(crate::proofs::Soundness::flaw_rules))]
     fn soundness(hash: Hash, cells: &[u64]) -> Reply
         requires { length cells.now ≤ 8192 }
         ensures { result ≡ first_of (sound_bars gateway hash cells.now) }
@@ -243,6 +246,7 @@ impl Phase {
     }
 
     // Whether a table may have its length and its hash function, and is sound or, if it is not, why.
+    #[tactic(auto, using(crate::proofs::Soundness::check_rules))]
     pub fn check(device: Device, hash: Hash, cells: &[u64]) -> Reply
         ensures { result ≡ first_of (table_bars (model_of device) hash cells.now) }
     {
@@ -256,6 +260,7 @@ impl Phase {
     }
 
     // Whether the opening goes on to the list: of an insert phase, that nothing is refused before.
+    #[tactic(auto, using(crate::proofs::Opening::reads_rules))]
     fn reads_list(
         device: Device,
         kind: u64,
@@ -289,6 +294,7 @@ impl Phase {
     }
 
     // The opening where it does not go on to the list.
+    #[tactic(auto, using(crate::proofs::Opening::early_rules))]
     fn opened_early(
         device: Device,
         kind: u64,
@@ -325,6 +331,7 @@ impl Phase {
     }
 
     // The opening of an insert phase behind the check of the lines: the number of what is wrong with them, and whether table and list together are too many.
+    #[tactic(auto, using(crate::proofs::Opening::late_rules))]
     fn opened_late(crew: u64, hash: Hash, cells: &[u64], fault: u32, full: bool) -> Replied
         requires { (length cells.now ≤ 8192) × (crew ≤ 16) }
         ensures { result ≡ opened gateway 1 crew hash cells.now (first_of (late_bars fault full)) }
@@ -352,6 +359,7 @@ impl Phase {
 
     // Opens a phase of a model and a kind, with a crew of so many workers and a hash function, on a table; an insert phase with a list of orders, which the other
     // kinds do not read.
+    #[tactic(auto, using(crate::proofs::Opening::open_rules))]
     pub fn open(
         device: Device,
         kind: u64,
@@ -372,6 +380,7 @@ impl Phase {
     }
 
     // The same with the list in three parallel slices: as many lines as the shortest has.
+    #[tactic(auto, using(crate::proofs::Opening::parallel_rules))]
     pub fn open_parallel(
         device: Device,
         kind: u64,

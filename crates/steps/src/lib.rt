@@ -1,4 +1,6 @@
 // The worker's rule as a function: one step of a worker, by its kind of phase.
+#![tactic(auto, using(std::proofs::lemmas::Bool::Decides::nat_tests), unfolding(rule::specs::Rule::rule))]
+
 ghost use Rattle.std.specs.Prelude.{◌≡◌};
 ghost use Rattle.homes.specs.Homes.{spread};
 ghost use Rattle.prices.specs.Contents.{label};
