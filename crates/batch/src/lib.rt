@@ -1,4 +1,6 @@
 // A batch of calls: the phase is opened and tested once, and one worker at a time moves. What the promises on histories say of code that runs.
+#![tactic(auto)]
+
 ghost use Rattle.orders.specs.Orders.{orders_of};
 ghost use Rattle.state.specs.Model.{model_of};
 ghost use Rattle.numbered.specs.Batch.{Ran, Promised};

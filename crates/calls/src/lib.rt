@@ -1,5 +1,7 @@
 // The calls on a phase: order, turn and close, by value. Each is told the model by whose limits the phase is tested; what reads no limit is the same in every
 // model.
+#![tactic(auto, using(std::proofs::lemmas::Bool::Decides::nat_tests))]
+
 ghost use Rattle.std.specs.Prelude.{◌≡◌, true, ◌<◌, length};
 ghost use Rattle.prices.specs.Contents.{label, price_ok};
 ghost use Rattle.activities.specs.Activities.{activity_ok};
@@ -55,7 +57,7 @@ pub fn close(device: Device, mut phase: Phase) -> Replied
 
 // ---- order
 // What an order call asks for: of which worker, for which key at which price, or that the list lacks the line.
-#[derive(Drop)]
+#[derive(Clone, Copy)]
 pub struct Asked {
     pub lacks: bool,
     pub worker: usize,
@@ -167,6 +169,7 @@ pub fn one_order(kind: u32, hash: Hash, length: u32, worker: Worker, key: u32, p
 
 // An order by a line that was found in the list lent, or by a worker and a key handed in. The workers are tested in its own body: the phase is not
 // copied for it.
+#[tactic(auto, using(crate::proofs::Walking::order_rules))]
 pub fn order_found(
     device: Device,
     mut phase: Phase,
@@ -285,6 +288,7 @@ fn turn_refused(phase: Phase, why: Refusal) -> Turned
 }
 
 // A turn of one worker of the phase. The workers are tested in its own body: the phase is not copied for it.
+#[tactic(auto, using(crate::proofs::Walking::turn_rules))]
 pub fn turn(device: Device, mut phase: Phase, cells: &mut [u64], worker: usize) -> Turned
     ensures { (result ≡ turn_call (model_of device) phase cells.old worker) × (cells.new ≡ turn_table (model_of device) phase cells.old worker) }
 {

@@ -97,6 +97,7 @@ module _ (d : Device) where
       each y (inl e) = ap label e
       each y (inr (inl e)) = ap label e
       each y (inr (inr (inl e))) = ap label e
+      each y (inr (inr (inr h))) = elim h [ ]
 
   take-out-alone : Alone 8 (removed d).ordered
   take-out-alone =
@@ -106,6 +107,7 @@ module _ (d : Device) where
       each : (y : ℕ) → In y (content 8 0 ∷ content 8 0 ∷ []) → label y ≡ 8
       each y (inl e) = ap label e
       each y (inr (inl e)) = ap label e
+      each y (inr (inr h)) = elim h [ ]
 
   reached : Added (model_of d) plain five 8 (added d).ordered (added d).table
   reached = addition (model_of d) (proper d) 2 plain five eights (lists-open d) 8 lacks-eight put_in (put-in-tested d).2 put-in-alone

@@ -124,7 +124,7 @@ takes-ordered : (after gateway 2 2 six_less six_less_image [] together).ordered 
 unfolding turns_of rounds run call is_well_formed meets_empty meets_key first all some dist probe wrap prev rule delete_step fits narrow
 takes-ordered = refl
 
--- what the put_in shift leaves stood in the table of the other, which is opened and closed
+-- what the put-in shift leaves stood in the table of the other, which is opened and closed
 shut-closed : (after gateway 3 1 six_less six_less_image [] (close ∷ [])).closed ≡ true
 unfolding run call is_well_formed meets_empty meets_key first all some dist probe wrap
 shut-closed = refl
@@ -316,7 +316,7 @@ close-number ab = refl
 started : (ab : Hash) → doing (order_call gateway (phase_by ab 2 5 2 false all_idle) [] 7 0 9).phase 0 ≡ Reading (content 9 0) (spread ab 5 9)
 started ab = ((orders gateway (phase_by ab 2 5 2 false all_idle) [] 7 0 9).other_accepted (apart 2 1 tt) (order-number ab)).starts (omega arith)
 
--- of a take_out's worker, whatever it is doing there
+-- of a take-out's worker, whatever it is doing there
 seeks-number : (turn_number (turn_call gateway (deleting_by twice (WalkingBack (one 8) 4)) (empty_cells 5) 1).reply ≡ 0)
     × (turn_number (turn_call gateway (deleting_by twice (WalkingBack (one 8) 3)) (empty_cells 5) 1).reply ≡ 0)
     × (turn_number (turn_call gateway (deleting_by six_less (SeekingForward (one 13) 4 0)) six_less_image 1).reply ≡ 0)

@@ -157,7 +157,7 @@ overwritten = ones (4 ∷ 3 ∷ 0 ∷ 13 ∷ 9 ∷ [])
 abbrev pub overpriced : List ℕ
 overpriced = one 4 ∷ one 3 ∷ 0 ∷ one 13 ∷ content 8 2 ∷ []
 
--- a put_in shift just opened on five empty cells for the sheet's items
+-- a put-in shift just opened on five empty cells for the sheet's items
 abbrev pub just_opened : Phase
 just_opened = (open_call gateway 1 2 plain (empty_cells 5) sheet_items).phase
 
@@ -369,17 +369,17 @@ pub record CallCorollaries : Type 0 where
   -- a list of 65,536 lines opens, a longer one gets 16 whatever its lines are
   pub longest : (n : ℕ) → n ≤ 65536 → reply_number (open_call gateway 1 2 plain (empty_cells 5) (replicate n (order_with 3 1 0))).reply ≡ 0
   pub too_long : (n : ℕ) → 65536 < n → (o : Order) → reply_number (open_call gateway 1 2 plain (empty_cells 5) (replicate n o)).reply ≡ 16
-  -- a put_in shift opens with good lines alone; the other kinds read no list
+  -- a put-in shift opens with good lines alone; the other kinds read no list
   pub lines : (i : ℕ) → i < 4 → Good 2 (get_or sheet_items i blank)
   pub list_unread : open_call gateway 2 2 plain four wrong_lines ≡ open_call gateway 2 2 plain four []
-  -- an order starts its worker at the label's home, in a put_in shift with the price, else without; it leaves the other worker
+  -- an order starts its worker at the label's home, in a put-in shift with the price, else without; it leaves the other worker
   pub starts_priced : doing (first_line (one_line 3 7 0)).phase 0 ≡ Reading (content 3 7) 3
   pub starts : doing (order_call gateway few_workers [] 7 0 9).phase 0 ≡ Reading (content 9 0) 4
   pub order_leaves : doing (first_line (one_line 3 7 0)).phase 1 ≡ Idle
   -- a line number past the list gets 15, a worker that the crew lacks 6
   pub no_line : reply_number (order_call gateway just_opened sheet_items 4 0 3).reply ≡ 15
   pub no_worker : reply_number (first_line (one_line 0 0 2)).reply ≡ 6
-  -- a put_in price of 0 or above 9,999,999 gets 14, label 0 gets 7 before that
+  -- a put-in price of 0 or above 9,999,999 gets 14, label 0 gets 7 before that
   pub free : reply_number (first_line (one_line 3 0 0)).reply ≡ 14
   pub too_dear : reply_number (first_line (one_line 3 10000000 0)).reply ≡ 14
   pub blank_first : reply_number (first_line (one_line 0 0 0)).reply ≡ 7
@@ -390,7 +390,7 @@ pub record CallCorollaries : Type 0 where
   pub last_test : reply_number (first_line (one_line 4294967295 1 0)).reply ≡ 24
   pub last_shop : reply_number (first_line (one_line 3999999999 1 0)).reply ≡ 0
   pub test_keeps : (first_line (one_line 4000000000 1 0)).phase ≡ just_opened
-  -- a put_in shift reads neither worker nor label handed in, the other kinds neither list nor line number
+  -- a put-in shift reads neither worker nor label handed in, the other kinds neither list nor line number
   pub insert_unread : order_call gateway just_opened sheet_items 1 9 0 ≡ order_call gateway just_opened sheet_items 1 0 13
   pub unread : reply_number (order_call gateway few_workers [] 7 0 9).reply ≡ 0
   pub other_unread : order_call gateway few_workers wrong_lines 0 0 9 ≡ order_call gateway few_workers [] 7 0 9
@@ -400,7 +400,7 @@ pub record CallCorollaries : Type 0 where
   pub inserts : get_or (turn_table gateway putting_in (ones (0 ∷ 0 ∷ 0 ∷ 8 ∷ 3 ∷ [])) 0) 3 0 ≡ one 13
   pub reprices : get_or (turn_table gateway repricing at_prices 0) 3 0 ≡ content 8 2
   pub deletes : get_or (turn_table gateway few_workers four 1) 4 0 ≡ one 4
-  -- a put_in that meets its label at no higher price finishes; at a higher one it replaces that, and finishes
+  -- a put-in that meets its label at no higher price finishes; at a higher one it replaces that, and finishes
   pub stands : (turn_call gateway (meeting 9) at_prices 0).reply ≡ Answered Finished
   pub undercuts : doing (turn_call gateway (meeting 8) at_prices 0).phase 0 ≡ Replacing (content 8 8) 3 3 (content 8 9)
   pub ends : (turn_call gateway repricing at_prices 0).reply ≡ Answered Finished
@@ -448,7 +448,7 @@ smaller_first = order_with 1 1 0 ∷ order_with 5 1 0 ∷ []
 abbrev pub one_by_one : List Call
 one_by_one = line 0 ∷ rounds 3 (0 ∷ []) (line 1 ∷ rounds 5 (0 ∷ []) (close ∷ []))
 
--- worker 1 of two in a take_out shift on five cells
+-- worker 1 of two in a take-out shift on five cells
 abbrev pub deleting_by : Hash → Activity → Phase
 deleting_by ab a = busy_by ab 2 5 2 1 a
 

@@ -97,7 +97,7 @@ pub record OtherLengths : Type 0 where
       ≡ (events.after 1 4 2 label (spread plain 4) (empty_cells 4) two_insert).table
   -- labels ordered from a list that together with the table has fewer than there are cells leave room
   pub room : Roomy 4 label (empty_cells 4) (events.after 1 4 1 label (spread plain 4) (empty_cells 4) one_inserts)
-  -- two turns of put_in shifts, and of look_up shifts, answer alike
+  -- two turns of put-in shifts, and of look-up shifts, answer alike
   pub insert_turns_alike : (turn_call gateway replacing emptied 0).reply ≡ (turn_call gateway (third replacing) also_emptied 2).reply
   pub find_turns_alike : (turn_call gateway looking holding 0).reply ≡ (turn_call gateway (third looking) also_holding 2).reply
   pub one_layout : seven ≡ priced_layout 2 label (spread plain 2) (content 7 2 ∷ one 7 ∷ [])

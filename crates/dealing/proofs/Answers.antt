@@ -10,7 +10,7 @@ use lib.Seq.{get_or-set_same}
 use Rattle.homes.specs.declared.Hash.{Hash}
 use Rattle.prices.specs.Contents.{label}
 use Rattle.orders.specs.declared.Order.{Order}
-use Rattle.activities.specs.Activities.{entry_of, idle}
+use Rattle.activities.specs.Activities.{entry_of}
 use Rattle.activities.specs.declared.Activity.{Activity}
 use Rattle.activities.specs.declared.Activity.TheVariants.{Idle}
 use Rattle.rule.specs.Events.{Said, tells}

@@ -24,7 +24,6 @@ use Rattle.dealing.specs.Promise.{TellsPromise}
 use Rattle.dealing.specs.declared.Ended.TheVariants as ended
 use Rattle.dealing.specs.declared.Finish.{Finish}
 use Rattle.dealing.proofs.Answers.{Ends, Moves, goes, ends, turn-moves}
-use Rattle.dealing.proofs.Reached.{kind}
 
 -- ---- an answer that is final ends an operation
 module _ {k : ℕ} {t : List ℕ} {now next : Activity} where

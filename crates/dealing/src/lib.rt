@@ -1,4 +1,6 @@
 // The line `run`: turns dealt to the workers one lap after the other, until all are idle.
+#![tactic(auto)]
+
 ghost use Rattle.std.specs.Prelude.{◌≡◌, true, false, replicate};
 ghost use Rattle.state.specs.Model.{gateway};
 ghost use Rattle.dealing.specs.Reached.{Led};
@@ -12,7 +14,7 @@ use rule::Answer;
 use state::Phase;
 
 // How an operation ended.
-#[derive(Drop)]
+#[derive(Clone, Copy)]
 pub enum Ended {
     Nothing,
     Finished,
@@ -22,13 +24,13 @@ pub enum Ended {
 }
 
 // How a worker's operation ended; `Nothing` where none has ended.
-#[derive(Drop)]
+#[derive(Clone, Copy)]
 pub struct Finish {
     pub ended: Ended,
 }
 
 // A phase with how the operations of its workers ended.
-#[derive(Drop)]
+#[derive(Clone, Copy)]
 pub struct Dealt {
     pub phase: Phase,
     pub finishes: [Finish; Phase::ROOM],

@@ -38,7 +38,7 @@ use Rattle.history.specs.History.{run, call, after}
 use Rattle.history.proofs.Theorem.{both-one-table}
 use Rattle.text.specs.Bytes.{bytes_of}
 use Rattle.text.specs.Numbers.{digits, leads, value_from, is_number}
-use Rattle.csv.specs.Reader.{is_text, is_inside, plain_of, inside_of, field_of, end_of, record_of}
+use Rattle.rfc4180.specs.Reader.{is_text, is_inside, plain_of, inside_of, field_of, end_of, record_of}
 use Rattle.till.specs.Till.{reading_of, read_behind, front_of, dealt, till_after}
 use Rattle.examples.specs.Forms.{empty_cells, calls_of}
 use Rattle.examples.specs.Examples.{four, sheet_items, sheet_puts_in}

@@ -34,7 +34,7 @@ lengths = 0 ∷ 1 ∷ 2 ∷ 256 ∷ 257 ∷ 300 ∷ []
 abbrev pub crews : List ℕ
 crews = 0 ∷ 1 ∷ 4 ∷ 5 ∷ 16 ∷ 17 ∷ []
 
--- open records of take_out shifts with all workers idle: with 256 cells and 4 workers; of the gateway, with 5 workers, with 257 and with 300 cells; with one
+-- open records of take-out shifts with all workers idle: with 256 cells and 4 workers; of the gateway, with 5 workers, with 257 and with 300 cells; with one
 -- cell; with no worker
 abbrev pub records : List Phase
 records =
@@ -80,7 +80,7 @@ module _ (M : Model) where
   abbrev pub closed : Phase → ℕ
   closed p = reply_number (close_call M p).reply
 
-  -- a put_in opening on five empty cells with the one label, an order of it, and a round that sends it; an order of it in a shift of kind k
+  -- a put-in opening on five empty cells with the one label, an order of it, and a round that sends it; an order of it in a shift of kind k
   abbrev pub puts : ℕ → List ℕ
   puts v =
       reply_number (open_reply M 1 1 plain (empty_cells 5) (one_line v 1 0))

@@ -1,4 +1,6 @@
 // Lists of calls on a migration, lent as numbers, each through the function of that call. What the promises on courses say of code that runs.
+#![tactic(auto)]
+
 ghost use Rattle.state.specs.Model.{model_of};
 ghost use Rattle.migration.specs.Lists.{calls_lent, RunsFrom, Ran, MovePromised};
 

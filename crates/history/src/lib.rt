@@ -1,1 +1,2 @@
 // Lists of calls.
+#![tactic(auto)]

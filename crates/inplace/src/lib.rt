@@ -1,4 +1,6 @@
 // Calls on a phase that stays in place: it is tested before, and one worker a call moves.
+#![tactic(auto)]
+
 ghost use Rattle.std.specs.Prelude.{◌≡◌, true, cond, ltb, eqb, length};
 ghost use Rattle.orders.specs.Orders.{orders_of};
 ghost use Rattle.state.specs.Model.{model_of};

@@ -1,4 +1,6 @@
 // The calls on a migration (document 02: move shift): opening, order, turn and close, by value. Each is told the model by whose limits it is tested.
+#![tactic(auto, using(std::proofs::lemmas::Bool::Decides::nat_tests))]
+
 ghost use Rattle.std.specs.Prelude.{◌≡◌, true, cond, ◌<◌, length};
 ghost use Rattle.prices.specs.Contents.{label};
 ghost use Rattle.activities.specs.Activities.{activity_ok};
@@ -82,6 +84,7 @@ fn numbers_ok(device: Device, kind: u32, source: u32, length: u32, crew: u32, ne
 }
 
 // Whether a migration is not spoilt, in document 01's word, to a model.
+#[tactic(auto, using(crate::proofs::Walking::formed_rules))]
 fn is_well_formed(device: Device, migration: Migration) -> bool
     ensures { result ≡ is_well_formed (model_of device) migration }
 {
@@ -113,6 +116,7 @@ fn is_well_formed(device: Device, migration: Migration) -> bool
 }
 
 // Whether no worker has an order.
+#[tactic(auto, using(crate::proofs::Walking::free_rules))]
 fn all_free(carriers: [Carrier; Phase::ROOM]) -> bool
     ensures { result ≡ all_free carriers }
 {
@@ -130,6 +134,7 @@ fn all_free(carriers: [Carrier; Phase::ROOM]) -> bool
 
 // ---- opening
 // Whether all cells of a table are empty.
+#[tactic(auto, using(crate::proofs::Walking::empty_rules))]
 fn all_empty(cells: &[u64]) -> bool
     ensures { result ≡ all_empty cells.now }
 {
@@ -186,6 +191,7 @@ fn unopened(why: Refusal) -> Migrated
 }
 
 // Opens a migration with a crew of so many workers and a hash function, from an old table to a new one.
+#[tactic(auto, using(crate::proofs::Walking::open_rules))]
 pub fn open(device: Device, crew: u64, hash: Hash, old: &[u64], new: &[u64]) -> Migrated
     ensures { result ≡ open_call (model_of device) crew hash old.now new.now }
 {
@@ -222,6 +228,7 @@ fn refused(migration: Migration, why: Refusal) -> Migrated
 }
 
 // A worker takes the next old cell.
+#[tactic(auto, using(crate::proofs::Walking::order_rules))]
 pub fn order(device: Device, mut migration: Migration, worker: usize) -> Migrated
     ensures { result ≡ order_call (model_of device) migration worker }
 {
@@ -255,6 +262,7 @@ pub fn order(device: Device, mut migration: Migration, worker: usize) -> Migrate
 
 // ---- turn
 // The turn that reads an old cell with this content: without a key it is finished, any other is carried from its key's home in the new table.
+#[tactic(auto, using(std::proofs::lemmas::Bool::Decides::nat_tests), unfolding(migration::specs::Tasks::fetched))]
 fn fetch(hash: Hash, length: u32, content: u64) -> Carried
     requires { 0 < length }
     ensures { result ≡ fetched gateway hash length content }
@@ -302,6 +310,7 @@ fn insert(hash: Hash, size: u32, new: &mut [u64], activity: Activity) -> Carried
 }
 
 // The turn of one worker that may have its task, on tables as long as its migration says. Neither is tested.
+#[tactic(auto, using(crate::proofs::Walking::carry_rules))]
 fn one_carry(hash: Hash, size: u32, old: &[u64], new: &mut [u64], task: Task) -> Carried
     requires { (task_ok (length old.now) size task ≡ true) × (size ≡ length new.old) × (0 < size) }
     ensures { (result ≡ one_carry gateway hash size old.now new.old task)
@@ -325,6 +334,7 @@ fn turn_refused(migration: Migration, why: Refusal) -> Stepped
 }
 
 // A turn of one worker, which touches one cell of one of the two tables.
+#[tactic(auto, using(crate::proofs::Walking::turn_rules))]
 pub fn turn(
     device: Device,
     mut migration: Migration,

@@ -1,12 +1,14 @@
 // A migration (document 02: move shift), in which workers carry the entries of an old table into a new one: its state here, its calls and lists of calls as
 // definitions in specs/. Types alone, no functions.
+#![tactic(auto)]
+
 use activities::Activity;
 use homes::Hash;
 use protocol::TurnReply;
 use state::{Phase, Reply};
 
 // What a worker of a migration is doing.
-#[derive(Drop)]
+#[derive(Clone, Copy)]
 pub enum Task {
     // Idle, or inserting into the new table what it has read.
     Inserting { activity: Activity },
@@ -14,14 +16,14 @@ pub enum Task {
     Fetching { cell: u32 },
 }
 
-#[derive(Drop)]
+#[derive(Clone, Copy)]
 pub struct Carrier {
     pub task: Task,
 }
 
 // The state of a migration, in either model: `source` is the length of the old table, `length` that of the new one, and `next` the old cell that the next
 // order takes. One hash function serves both tables.
-#[derive(Drop)]
+#[derive(Clone, Copy)]
 pub struct Migration {
     pub kind: u32,
     pub source: u32,
@@ -34,21 +36,21 @@ pub struct Migration {
 }
 
 // A migration with the answer of the call that gave it.
-#[derive(Drop)]
+#[derive(Clone, Copy)]
 pub struct Migrated {
     pub migration: Migration,
     pub reply: Reply,
 }
 
 // The same of a turn.
-#[derive(Drop)]
+#[derive(Clone, Copy)]
 pub struct Stepped {
     pub migration: Migration,
     pub reply: TurnReply,
 }
 
 // The same of one worker alone.
-#[derive(Drop)]
+#[derive(Clone, Copy)]
 pub struct Carried {
     pub carrier: Carrier,
     pub reply: TurnReply,

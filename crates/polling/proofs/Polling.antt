@@ -27,7 +27,7 @@ use Rattle.state.proofs.Model.{proper}
 use Rattle.state.proofs.Sequence.{or_else, first-append}
 use Rattle.protocol.proofs.Theorem.{opens}
 use Rattle.tables.specs.Calls as tables
-use Rattle.rounds.specs.Rounds.{Ack, no_ack, sent_entries, if_accepted, open_round, ack_reply, ack_numbers, acked, orders_out, is_short, round_bars, left_table, close_round, list_after, Opens, Closes}
+use Rattle.rounds.specs.Rounds.{Ack, no_ack, sent_entries, if_accepted, open_round, ack_reply, ack_numbers, acked, orders_out, is_short, round_bars, left_table, close_round, Opens, Closes}
 use Rattle.rounds.proofs.Acks.{ack, acked-front, own-answer}
 use Rattle.rounds.proofs.Closing.{passed, table_is, answers-are, take-out-opens, left-listed}
 use Rattle.rounds.proofs.Sending.{empty, laid-on-empty}

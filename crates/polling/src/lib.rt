@@ -1,5 +1,7 @@
 // Reply rounds (document 02, point 8), above the table: by the contracts of the functions below alone. Between opening and closing no record is kept; the
 // table is.
+#![tactic(auto)]
+
 ghost use Rattle.std.specs.Prelude.{◌≡◌, ◌≢◌, false, [], ◌≤◌, length, replicate};
 ghost use Rattle.orders.specs.Orders.{orders_of};
 ghost use Rattle.state.specs.Model.{model_of};

@@ -1,5 +1,7 @@
 // A price change with a reply round, as a sample to run: it is sent to forty labels, and those that do not reply are printed, a line each: the label, a tab and
 // its price in cents.
+#![tactic(auto)]
+
 ghost use Rattle.std.specs.Prelude.{◌≡◌, ℕ, ◌+◌, ◌*◌, ◌%◌, ◌<◌, ◌≤◌, length, get_or};
 ghost use Rattle.state.specs.Counts.{count_value};
 
@@ -7,6 +9,7 @@ use homes::Hash;
 use polling::{close_round, open_round};
 use prices::PRICES;
 use state::{Counted, Device, Refusal, Reply};
+use std::io;
 
 // The cells of the table, and the workers.
 const CELLS: usize = 64;
@@ -113,55 +116,50 @@ fn hear(cells: &mut [u64], silent: &mut [u64]) -> Counted
 }
 
 // Prints the number of a refusal.
-fn print_refused(why: Refusal) {
-    io::write_all(1, b"refused ");
-    io::print_decimal(1, why.number() as u64);
-    io::write_all(1, b"\n");
+fn print_refused(rt: &impl Print, why: Refusal) -> io::Result<()> {
+    println!(rt; "refused {}", why.number())
 }
 
 // Prints a label with its price.
-fn print_entry(entry: u64) {
-    io::print_decimal(1, entry / PRICES);
-    io::write_all(1, b"\t");
-    io::print_decimal(1, entry % PRICES);
-    io::write_all(1, b"\n");
+fn print_entry(rt: &impl Print, entry: u64) -> io::Result<()> {
+    println!(rt; "{}\t{}", entry / PRICES, entry % PRICES)
 }
 
 // Prints how many labels the change was sent to, how many of them replied and how many are silent.
-fn print_counts(silent: usize)
+fn print_counts(rt: &impl Print, silent: usize) -> io::Result<()>
     requires { silent ≤ SENT }
 {
-    io::print_decimal(1, SENT as u64);
-    io::write_all(1, b" sent, ");
-    io::print_decimal(1, (SENT - silent) as u64);
-    io::write_all(1, b" replied, ");
-    io::print_decimal(1, silent as u64);
-    io::write_all(1, b" silent\n");
+    println!(rt;
+        "{} sent, {} replied, {} silent",
+        SENT,
+        SENT - silent,
+        silent
+    )
 }
 
 // Prints the labels listed, each with its price.
-fn print_entries(entries: &[u64]) {
+fn print_entries(rt: &impl Print, entries: &[u64]) -> io::Result<()> {
     let mut i: usize = 0;
     while i < entries.len() {
-        print_entry(entries[i]);
+        print_entry(rt, entries[i])?;
         i += 1;
     }
+    Ok(())
 }
 
-fn main() {
+fn main(rt: HostRuntime) -> io::Result<()> {
     let mut cells = [0u64; CELLS];
     let sent = send(&mut cells);
     if let Reply::Refused(why) = sent {
-        print_refused(why);
-        return;
+        return print_refused(&rt, why);
     }
     let mut silent = [0u64; SENT];
     let heard = hear(&mut cells, &mut silent);
     match heard {
-        Counted::Refused(why) => print_refused(why),
+        Counted::Refused(why) => print_refused(&rt, why),
         Counted::Count(count) => {
-            print_counts(count);
-            print_entries(&silent[..count]);
+            print_counts(&rt, count)?;
+            print_entries(&rt, &silent[..count])
         }
     }
 }

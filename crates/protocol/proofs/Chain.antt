@@ -87,13 +87,15 @@ distinct (s ∷ c) = cond (among (number_of s.why) c) false (distinct c)
 -- its reply's number is among them
 reply-among : (c : List Step) → among (reply_number (first_of (bars_of c))) c ≡ true
 reply-among [] = refl
-reply-among (s ∷ c) = by-test s.when
-    (λ e. rw e (rw (eq-eqb (number_of s.why) (number_of s.why) refl)))
-    (λ e. rw e (more (eqb (reply_number (first_of (bars_of c))) (number_of s.why)) (reply-among c)))
+reply-among (s ∷ c) = at-test s.when (reply-among c)
   where
     more : (b : Bool) {x : Bool} → x ≡ true → cond b true x ≡ true
     more true e = refl
     more false e = e
+
+    at-test : (w : Bool) → among (reply_number (first_of (bars_of c))) c ≡ true → among (reply_number (cond w (Refused s.why) (first_of (bars_of c)))) (s ∷ c) ≡ true
+    at-test true e = rw (eq-eqb (number_of s.why) (number_of s.why) refl)
+    at-test false e = more (eqb (reply_number (first_of (bars_of c))) (number_of s.why)) e
 
 -- r is the chain's number where all steps before it are passed by (B), and they are if r is among the chain's numbers
 decides-from : (c : List Step) (B : Type 0) (r : ℕ) → distinct c ≡ true → (B → r ≡ reply_number (first_of (bars_of c))) → (among r c ≡ true → B)

@@ -1,4 +1,6 @@
 // What is done to a table at rest: check, count and list, each by the hash function that the table is used with, and emptying it. No phase is needed.
+#![tactic(auto)]
+
 ghost use Rattle.std.specs.Prelude.{◌≡◌, length, replicate};
 ghost use Rattle.state.specs.Model.{model_of};
 ghost use Rattle.tables.specs.Calls.{check_call, count_call, list_call, list_after, list_front};

@@ -1,4 +1,6 @@
 // The service call of document 01: a turn on a lent phase. It is the plain call and nothing more.
+#![tactic(auto)]
+
 ghost use Rattle.std.specs.Prelude.{◌≡◌};
 ghost use Rattle.state.specs.Model.{model_of};
 ghost use Rattle.protocol.specs.Calls.{turn_call, turn_table};

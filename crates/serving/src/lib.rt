@@ -1,5 +1,7 @@
 // Whole phases over lists of orders that come at once: each order is given, and turns are dealt until it is finished. By the contracts of the calls and of
 // `dealing::run` alone.
+#![tactic(auto)]
+
 ghost use Rattle.std.specs.Prelude.{◌≡◌, false, [], ◌++◌, ◌≤◌, length, drop};
 ghost use Rattle.homes.specs.Homes.{spread};
 ghost use Rattle.prices.specs.Contents.{label};
@@ -67,6 +69,7 @@ pub fn insert_each(
 
 // ---- find
 // How many acknowledgements there are.
+#[tactic(auto, using(crate::proofs::Counted::ack_rules))]
 pub fn acks_of(keys: &[u32], workers: &[u32]) -> usize
     ensures { result ≡ length (acks_of keys.now workers.now) }
 {
@@ -86,7 +89,7 @@ fn found_number(finish: Finish) -> u32
 }
 
 // A phase, with the number of the answer of an acknowledgement.
-#[derive(Drop)]
+#[derive(Clone, Copy)]
 pub struct Told {
     pub phase: Phase,
     pub number: u32,
@@ -121,6 +124,7 @@ fn find_one(device: Device, phase: Phase, cells: &mut [u64], key: u32, worker: u
 }
 
 // Looks every acknowledgement up, tells each its answer and closes the phase.
+#[tactic(auto, using(crate::proofs::Counted::ack_rules))]
 pub fn find_each(
     device: Device,
     phase: Phase,
@@ -149,6 +153,7 @@ pub fn find_each(
 
 // ---- delete
 // Takes out the keys of the acknowledgements whose answer is 0, and closes the phase.
+#[tactic(auto, using(crate::proofs::Counted::ack_rules))]
 pub fn delete_each(
     device: Device,
     phase: Phase,

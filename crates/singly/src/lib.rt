@@ -1,4 +1,6 @@
 // Lists of calls, lent as numbers, each through the function of that call.
+#![tactic(auto)]
+
 ghost use Rattle.std.specs.Prelude.{◌≡◌, min};
 ghost use Rattle.orders.specs.Orders.{orders_of};
 ghost use Rattle.state.specs.Model.{model_of};
