@@ -1,4 +1,6 @@
 // The replay of a shift sheet, line by line: a line answered, and what is kept from line to line.
+#![tactic(auto)]
+
 ghost use Rattle.std.specs.Prelude.{◌≡◌, true, false, ◌+◌, ◌≤◌, ◌<◌, length, take};
 ghost use Rattle.prices.specs.Contents.{label};
 ghost use Rattle.activities.specs.Activities.{activity_ok};
@@ -23,7 +25,7 @@ use state::{Counted, Device, Phase, Refusal, Reply};
 
 // What is kept from line to line, beside the lent cells and the numbers of the items: the phase, how many of the cells are the table, and how many items
 // there are.
-#[derive(Drop)]
+#[derive(Clone, Copy)]
 pub struct Replay {
     pub phase: Phase,
     pub length: usize,
@@ -39,7 +41,7 @@ impl Replay {
 }
 
 // The replay after a task, with what it tells and how the operations ended in a run.
-#[derive(Drop)]
+#[derive(Clone, Copy)]
 pub struct Done {
     pub replay: Replay,
     pub told: Told,
@@ -47,7 +49,7 @@ pub struct Done {
 }
 
 // The replay after a line, the place behind what the line printed, and whether the replay ends there.
-#[derive(Drop)]
+#[derive(Clone, Copy)]
 pub struct Answered {
     pub replay: Replay,
     pub at: usize,
@@ -55,14 +57,14 @@ pub struct Answered {
 }
 
 // What an order to one worker leaves: the worker, and the place behind what the line printed.
-#[derive(Drop)]
+#[derive(Clone, Copy)]
 pub struct Ordered {
     pub worker: Worker,
     pub at: usize,
 }
 
 // What a turn of one worker leaves.
-#[derive(Drop)]
+#[derive(Clone, Copy)]
 pub struct Stepped {
     pub worker: Worker,
     pub at: usize,

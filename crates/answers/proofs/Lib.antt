@@ -1,5 +1,4 @@
 pub mod Batches
 pub mod Counts
 pub mod Numbering
-pub mod Opening
 pub mod Rounds

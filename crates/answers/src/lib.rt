@@ -1,4 +1,6 @@
 // The calls for C and Rust in either model, with their answers as numbers: each model's exported functions call them.
+#![tactic(auto)]
+
 ghost use Rattle.std.specs.Prelude.{◌≡◌};
 ghost use Rattle.homes.specs.Homes.{hash_of};
 ghost use Rattle.orders.specs.Orders.{orders_of};

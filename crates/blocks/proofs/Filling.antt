@@ -9,6 +9,7 @@ use borrow.Author.Tests.{eqb-true, eqb-false}
 use lib.Dec.{eqb}
 use lib.ListN.{length, take, drop, length-drop, length-take}
 use lib.Seq.{take-add, take_all}
+use Rattle.state.specs.declared.Phase.{Phase}
 use Rattle.text.specs.Bytes.{byte_at}
 use Rattle.lines.specs.Grammar.{reading_of, kept_bytes}
 use Rattle.lines.specs.declared.Line.{Line}
@@ -26,6 +27,11 @@ use Rattle.blocks.specs.declared.Carried.{Carried}
 use Rattle.blocks.specs.Kept.{kept_of, Held, Fit, Fills}
 use Rattle.gathering.specs.Gathers.{Gathers}
 use Rattle.blocks.proofs.Answered.{state-behind, ended-behind, output-behind, room-behind}
+
+-- what a loop over the lines carries on
+abbrev pub carry : Phase → (size count number len : ℕ) → Carried
+carry phase size count number len =
+    record { replay = record { phase = phase; length = size; items = count }; number = number; len = len; ended = false }
 
 -- the rest of a block, as the code cuts it
 abbrev pub rest : List ℕ → ℕ → List ℕ

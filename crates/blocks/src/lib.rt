@@ -1,4 +1,6 @@
 // A block of the shift sheet: its lines read where they lie and answered into a buffer. Nothing is read from or written to the system here.
+#![tactic(auto)]
+
 ghost use Rattle.std.specs.Prelude.{◌≡◌, ◌≤◌, ◌<◌, length, take};
 ghost use Rattle.sheet.specs.Replay.{longest_answer};
 ghost use Rattle.feed.specs.Feed.{last_output};
@@ -9,7 +11,7 @@ use fitting::Aim;
 
 // What is kept from block to block, beside the lent cells, the items and the bytes of a line that is not whole yet: how many those are, how many lines
 // there were, and whether the replay has ended.
-#[derive(Drop)]
+#[derive(Clone, Copy)]
 pub struct Carried {
     pub replay: Replay,
     pub number: u64,
@@ -18,7 +20,7 @@ pub struct Carried {
 }
 
 // How far a block is done, and how far the buffer is filled with what that part prints.
-#[derive(Drop)]
+#[derive(Clone, Copy)]
 pub struct Filled {
     pub carried: Carried,
     pub next: usize,

@@ -1,4 +1,6 @@
 // A line fitted to the phase: what is done with it, and to whom it is.
+#![tactic(auto, using(std::proofs::lemmas::Bool::Decides::nat_tests))]
+
 ghost use Rattle.std.specs.Prelude.{◌≡◌};
 ghost use Rattle.orders.specs.Orders.{line_at, kept_orders};
 ghost use Rattle.fitting.specs.Fitting.{most_items, item_places, Kept, row_with, order_numbers, item_handling, row_of, fits_row, handling_in, handled, reading_in};

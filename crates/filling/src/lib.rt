@@ -1,4 +1,6 @@
 // A till list read into a lent list of orders (document 02, point 4).
+#![tactic(auto)]
+
 ghost use Rattle.std.specs.Prelude.{◌≡◌, length};
 ghost use Rattle.state.specs.Model.{model_of};
 ghost use Rattle.till.specs.Till.{till_call, till_after};

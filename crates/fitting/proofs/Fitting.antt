@@ -26,7 +26,7 @@ use Rattle.fitting.specs.declared.Row.{Row}
 use Rattle.fitting.specs.declared.Single.{Single}
 use Rattle.fitting.specs.declared.Single.TheVariants as single
 use Rattle.fitting.specs.declared.Task.{Task}
-use Rattle.fitting.specs.Fitting.{row_of, fits_row, handling_in, handled, reading_in, order_named, order_aim, turn_aim, aim_with, aim_of}
+use Rattle.fitting.specs.Fitting.{row_of, fits_row, handling_in, handled, reading_in, order_named, order_aim, aim_with, aim_of}
 
 -- ---- the numbers that a row takes
 module _ (r : Row) (ns : Numbers) where

@@ -13,7 +13,6 @@ use Rattle.text.specs.Bytes.{same, bytes_of}
 use Rattle.text.specs.Fields.{fields_of}
 use Rattle.text.specs.Numbers.{digits, leads, value_from, is_number}
 use Rattle.text.proofs.Test.{by-test, by-lt, true-false, both_true}
-use Rattle.orders.specs.declared.Order.{Order}
 use Rattle.orders.specs.Orders.{blank}
 use Rattle.lines.specs.Grammar.{word_of, known, command_in, numbered, are_numbers, numbers_of, reading_of}
 use Rattle.lines.specs.declared.Command.{Command}
@@ -21,7 +20,7 @@ use Rattle.lines.specs.declared.Line.{Line}
 use Rattle.lines.proofs.Words.{same_word}
 use Rattle.lines.proofs.Theorem.{lines-promise}
 use Rattle.fitting.specs.Examples.{Tried, lines, AsTried, AllAsTried}
-use Rattle.fitting.specs.Fitting.{most_items, order_numbers, item_handling, row_of, fits_row, handling_in, handled, reading_in, aim_of}
+use Rattle.fitting.specs.Fitting.{most_items, order_numbers, item_handling, row_of, fits_row, handling_in, handled, reading_in}
 use Rattle.fitting.specs.Promise.{Fitted, line_with, Opened, Itemed, Ordered, Placed, FittingPromise}
 use Rattle.fitting.specs.declared.Handling.{Handling}
 use Rattle.fitting.specs.declared.Handling.TheVariants.{Performed, Refused, Barred, Bad}

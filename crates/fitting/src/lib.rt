@@ -1,5 +1,7 @@
 // Fitting a line to the phase: the table of the commands and what a line asks for, as definitions in specs/ with their promise, and laws in proofs/. Here are
 // only the types and constants that they need.
+#![tactic(auto)]
+
 use lines::Command;
 
 // The sheet keeps at most so many items (the list of orders for a put-in shift).
@@ -10,7 +12,7 @@ pub const ITEM_PLACES: usize = 3 * MOST_ITEMS;
 
 // What is done with a line: it is carried out, refused because the phase is shut, or bad. It must have the numbers that its command takes, unless it is
 // `Barred`: refused whatever it has.
-#[derive(Drop)]
+#[derive(Clone, Copy)]
 pub enum Handling {
     Performed,
     Refused,
@@ -19,7 +21,7 @@ pub enum Handling {
 }
 
 // A line to one worker, an order or a turn; or any other line.
-#[derive(Drop)]
+#[derive(Clone, Copy)]
 pub enum Single {
     Order,
     Turn,
@@ -27,7 +29,7 @@ pub enum Single {
 }
 
 // A command's row: how many numbers it takes, what is done with it in a shut phase and in an open one, and whether it is to one worker.
-#[derive(Drop)]
+#[derive(Clone, Copy)]
 pub struct Row {
     pub takes: usize,
     pub shut: Handling,
@@ -36,13 +38,13 @@ pub struct Row {
 }
 
 // What a line asks for; `Refuse` where the phase is shut.
-#[derive(Drop)]
+#[derive(Clone, Copy)]
 pub enum Task {
     Perform(Command),
     Refuse,
 }
 
-#[derive(Drop)]
+#[derive(Clone, Copy)]
 pub enum Reading {
     Todo(Task),
     Bad,
@@ -50,7 +52,7 @@ pub enum Reading {
 
 // A line to one worker of an open phase, an order (worker, label and price) or a turn (worker); or any other line. An order that is named by a place in the
 // list has the numbers of that place; one without a price has 0.
-#[derive(Drop)]
+#[derive(Clone, Copy)]
 pub enum Aim {
     Order(u32, u32, u32),
     Turn(u32),

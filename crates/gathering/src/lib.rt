@@ -1,4 +1,6 @@
 // The bytes of a line that comes in parts, gathered, and what the line says.
+#![tactic(auto)]
+
 ghost use Rattle.std.specs.Prelude.{◌≡◌, ◌++◌, ◌≤◌, length, take};
 ghost use Rattle.lines.specs.Grammar.{reading_of, kept_bytes};
 ghost use Rattle.gathering.specs.Gathers.{Gathers};

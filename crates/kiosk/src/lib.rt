@@ -1,4 +1,6 @@
 // The kiosk's calls: those that are handed a record, and functions for C and Rust, numbers and slices alone, which the header vulzegan.h declares.
+#![tactic(auto)]
+
 ghost use Rattle.std.specs.Prelude.{◌≡◌};
 ghost use Rattle.homes.specs.Homes.{hash_of};
 ghost use Rattle.orders.specs.Orders.{orders_of};

@@ -1,4 +1,6 @@
 // Reading a line of the shift sheet.
+#![tactic(auto)]
+
 ghost use Rattle.std.specs.Prelude.{◌≡◌, drop};
 ghost use Rattle.text.specs.Fields.{fields_of};
 ghost use Rattle.lines.specs.Grammar.{command_of, unreadable, numbers_of, reading_of, most_numbers, kept_bytes};
@@ -8,7 +10,7 @@ use lines::{Command, Line, Numbers};
 use text::Scanned;
 
 // A command, and whether it is known.
-#[derive(Drop)]
+#[derive(Clone, Copy)]
 struct Named {
     command: Command,
     known: bool,

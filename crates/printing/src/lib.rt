@@ -1,4 +1,6 @@
 // What an output line says behind its number, written into a lent buffer.
+#![tactic(auto)]
+
 ghost use Rattle.std.specs.Prelude.{[], ◌∷◌, ◌++◌, ◌+◌, ◌*◌, ◌≤◌, length, take};
 ghost use Rattle.text.specs.Digits.{digits_of};
 ghost use Rattle.words.specs.Words.{entries_of};
@@ -12,7 +14,7 @@ use rule::Answer;
 use state::{Phase, Refusal, Reply};
 
 // What a line tells: the answer of a call; that workers ran; how many keys are listed.
-#[derive(Drop)]
+#[derive(Clone, Copy)]
 pub enum Told {
     Replied(Reply),
     Turned(TurnReply),

@@ -1,4 +1,6 @@
 // Till lists read: how many records a text has, the orders of its records one by one, and the list lent as three parallel slices.
+#![tactic(auto)]
+
 ghost use Rattle.std.specs.Prelude.{◌≡◌, length};
 ghost use Rattle.orders.specs.Orders.{blank, orders_of};
 ghost use Rattle.state.specs.Model.{model_of};

@@ -1,5 +1,7 @@
 // Replays the shift sheet on standard input, a block of bytes at a time.
-ghost use Rattle.std.specs.Prelude.{◌≤◌, length};
+#![tactic(auto)]
+
+ghost use Rattle.std.specs.Prelude.{◌≤◌, ◌<◌, ◌^◌, length};
 ghost use Rattle.sheet.specs.Replay.{longest_answer};
 ghost use Rattle.blocks.specs.Kept.{kept_of, Fit};
 ghost use Rattle.replay.specs.Read.{Passes, Brings};
@@ -7,6 +9,7 @@ ghost use Rattle.replay.specs.Read.{Passes, Brings};
 use answering::Replay;
 use blocks::Carried;
 use lines::Line;
+use std::io::{ErrorKind, Read};
 
 // How many bytes are read at a time.
 const BLOCK: usize = 65536;
@@ -15,33 +18,38 @@ const BLOCK: usize = 65536;
 const OUTPUT: usize = 196608;
 
 // A block is done; `written` if all that it prints could be written.
-#[derive(Drop)]
+#[derive(Clone, Copy)]
 struct Passed {
     carried: Carried,
     written: bool,
 }
 
 // What one read brought; `working` if it could be read, and what it prints could be written.
-#[derive(Drop)]
+#[derive(Clone, Copy)]
 struct Brought {
     carried: Carried,
     count: usize,
     working: bool,
 }
 
-// Writes the filled part of the buffer to standard output. Where that fails it says so on standard error.
-fn flush(out: &[u8], at: usize) -> bool
+// Writes the filled part of the buffer to standard output. Where that fails it says so on standard error, but for a reader that has gone.
+fn flush(rt: &(impl Print + Eprint), out: &[u8], at: usize) -> bool
     requires { at ≤ length out.now }
 {
-    let written = io::write_all(1, &out[..at]);
-    if !written {
-        io::write_all(2, b"replay: cannot write standard output\n");
+    match rt.write_all(&out[..at]) {
+        Ok(()) => true,
+        Err(error) => {
+            if error.kind() != ErrorKind::BrokenPipe {
+                eprintln!(rt; "replay: cannot write standard output").is_ok();
+            }
+            false
+        }
     }
-    written
 }
 
 // Answers the lines that end in a block, and writes what they print.
 fn block_done(
+    rt: &(impl Print + Eprint),
     carried: Carried,
     block: &[u8],
     line: &mut [u8],
@@ -60,7 +68,7 @@ fn block_done(
         let next = filled.carried;
         kept = next;
         from += filled.next;
-        let written = flush(out, filled.at);
+        let written = flush(rt, out, filled.at);
         if !written {
             return Passed {
                 carried: kept,
@@ -82,6 +90,7 @@ fn block_done(
 
 // Answers the lines that end in what a read brought, of which `got` is the answer. Where the read failed it says so on standard error.
 fn read_done(
+    rt: &(impl Print + Eprint),
     carried: Carried,
     got: isize,
     block: &[u8],
@@ -96,14 +105,14 @@ fn read_done(
 {
     let count = io::count(got, block);
     if got < 0 {
-        io::write_all(2, b"replay: cannot read standard input\n");
+        eprintln!(rt; "replay: cannot read standard input").is_ok();
         return Brought {
             carried,
             count,
             working: false,
         };
     }
-    let passed = block_done(carried, &block[..count], line, cells, items, out);
+    let passed = block_done(rt, carried, &block[..count], line, cells, items, out);
     let next = passed.carried;
     Brought {
         carried: next,
@@ -112,7 +121,17 @@ fn read_done(
     }
 }
 
-fn main() {
+// What a read of a block answers: how many bytes it brought, or -1 where it failed.
+fn read_block(rt: &HostRuntime, block: &mut [u8]) -> isize
+    requires { length block.old < 2 ^ 63 }
+{
+    match rt.stdin().read(block) {
+        Ok(count) => count as isize,
+        Err(_) => -1,
+    }
+}
+
+fn main(rt: HostRuntime) {
     let mut cells = [0u64; Replay::MOST_CELLS];
     let mut items = [0u32; fitting::ITEM_PLACES];
     let mut block = [0u8; BLOCK];
@@ -121,9 +140,9 @@ fn main() {
     let mut carried = blocks::start();
     let mut left: u64 = 18446744073709551615;
     while (BLOCK as u64) < left {
-        let got = libc::read(0, &mut block);
+        let got = read_block(&rt, &mut block);
         let brought = read_done(
-            carried, got, &block, &mut line, &mut cells, &mut items, &mut out,
+            &rt, carried, got, &block, &mut line, &mut cells, &mut items, &mut out,
         );
         let next = brought.carried;
         carried = next;
@@ -136,7 +155,7 @@ fn main() {
         let count = brought.count;
         if count == 0 {
             let at = blocks::last_line(carried, &line, &mut cells, &mut items, &mut out);
-            flush(&out, at);
+            flush(&rt, &out, at);
             return;
         }
         left -= count as u64;

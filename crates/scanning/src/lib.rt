@@ -1,4 +1,6 @@
 // Text read: bytes compared and looked for, and the numbers that fields write.
+#![tactic(auto)]
+
 ghost use Rattle.std.specs.Prelude.{◌≡◌};
 ghost use Rattle.text.specs.Bytes.{same, byte_at};
 ghost use Rattle.text.specs.Numbers.{scanned_at, run_at};

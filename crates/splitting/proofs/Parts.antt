@@ -15,8 +15,8 @@ use Rattle.text.specs.declared.Number.{Number}
 use Rattle.text.specs.declared.Run.{Run}
 use Rattle.text.specs.Numbers.{run_at}
 use Rattle.text.proofs.Test.{by-test, by-lt}
-use Rattle.csv.specs.Reader.{is_text, Scan, plain_of, inside_of, end_of}
-use Rattle.csv.proofs.Laws.{plain-nil, plain-stop, inside-last, inside-close, field-nil, field-quote, field_plain}
+use Rattle.rfc4180.specs.Reader.{is_text, Scan, plain_of, inside_of, end_of}
+use Rattle.rfc4180.proofs.Laws.{plain-nil, plain-stop, inside-last, inside-close, field-nil, field-quote, field_plain}
 use Rattle.splitting.specs.declared.End.{End}
 use Rattle.splitting.specs.declared.Field.{Field}
 use Rattle.splitting.specs.declared.Part.{Part}

@@ -9,8 +9,8 @@ use lib.ListN.{length, get_or, drop, drop_of_length-le}
 use lib.Seq.{drop-cons, drop-drop}
 use Rattle.text.specs.declared.Number.{Number}
 use Rattle.text.specs.Numbers.{number_of}
-use Rattle.csv.specs.Grammar.{pair}
-use Rattle.csv.specs.Reader.{Scan, Parsed, field_of, end_of, with_end, with_second, with_comma, record_of}
+use Rattle.rfc4180.specs.Grammar.{pair}
+use Rattle.rfc4180.specs.Reader.{Scan, Parsed, field_of, end_of, with_end, with_second, with_comma, record_of}
 use Rattle.till.specs.declared.Record.{Record}
 use Rattle.till.specs.Till.{front_by, front_with, front_of}
 use Rattle.till.specs.Places.{placed, record_at}

@@ -13,10 +13,10 @@ use Rattle.text.specs.Numbers.{digits, is_number, number_of, digits_in, leading,
 use Rattle.text.proofs.Test.{by-test}
 use Rattle.text.proofs.Values.{digits_append, below-digits, no-digits}
 use Rattle.text.proofs.Runs.{run-nil, run_more, by-digit, length-leading, run-over, no_digit, run-parts}
-use Rattle.csv.specs.Grammar.{TextData}
-use Rattle.csv.specs.Reader.{is_text, is_inside, Scan, push, skip, plain_of, inside_of}
-use Rattle.csv.proofs.Bytes.{is-text, text-no-quote, text-inside}
-use Rattle.csv.proofs.Laws.{plain-nil, plain_more, plain-stop, inside-nil, inside-last, inside-close, inside-two, inside-break, inside-more}
+use Rattle.rfc4180.specs.Grammar.{TextData}
+use Rattle.rfc4180.specs.Reader.{is_text, is_inside, Scan, push, skip, plain_of, inside_of}
+use Rattle.rfc4180.proofs.Bytes.{is-text, text-no-quote, text-inside}
+use Rattle.rfc4180.proofs.Laws.{plain-nil, plain_more, plain-stop, inside-nil, inside-last, inside-close, inside-two, inside-break, inside-more}
 use Rattle.splitting.specs.declared.End.{End}
 use Rattle.splitting.specs.declared.Field.{Field}
 use Rattle.splitting.specs.Fields.{end_from, field_from}

@@ -2,7 +2,7 @@
 use Rattle.std.specs.Prelude.{◌≡◌, ◌≢◌, false, List, ℕ, ◌+◌, get_or, drop}
 use Rattle.text.specs.declared.Number.{Number}
 use Rattle.text.specs.Numbers.{number_of}
-use Rattle.csv.specs.Reader.{is_text, Scan, field_of}
+use Rattle.rfc4180.specs.Reader.{is_text, Scan, field_of}
 use Rattle.till.specs.declared.Record.{Record}
 use Rattle.splitting.specs.declared.End.{End}
 use Rattle.splitting.specs.declared.Field.{Field}

@@ -1,6 +1,8 @@
 // Till lists split into their records: the record that begins at a place of a text.
+#![tactic(auto)]
+
 ghost use Rattle.std.specs.Prelude.{◌≡◌, eqb, get_or, drop};
-ghost use Rattle.csv.specs.Reader.{is_text, is_inside, plain_of, inside_of, end_of};
+ghost use Rattle.rfc4180.specs.Reader.{is_text, is_inside, plain_of, inside_of, end_of};
 ghost use Rattle.till.specs.Places.{record_at};
 ghost use Rattle.splitting.specs.declared.End.TheVariants.{At};
 ghost use Rattle.splitting.specs.Fields.{end_from, field_from, field_at, PartBy, line_by};
@@ -10,21 +12,21 @@ use text::Number;
 use till::Record;
 
 // The place behind what begins at a place.
-#[derive(Drop)]
+#[derive(Clone, Copy)]
 pub enum End {
     Broken,
     At(usize),
 }
 
 // A field: the number that it writes, and the place behind it.
-#[derive(Drop)]
+#[derive(Clone, Copy)]
 pub enum Field {
     Broken,
     Read(Number, usize),
 }
 
 // Digits, in quotes or not: the number that they write, and the place behind them. `Other` if the closing quote is missing.
-#[derive(Drop)]
+#[derive(Clone, Copy)]
 pub enum Part {
     Other,
     Digits(Number, usize),
@@ -151,6 +153,7 @@ fn field_at(text: &[u8], at: usize) -> Field
 }
 
 // The end of a record: that of the text, or CRLF.
+#[tactic(auto, using(crate::proofs::Ends::end_rules))]
 fn end_at(text: &[u8], at: usize) -> End
     ensures { result ≡ end_from at (end_of (drop at text.now)) }
 {

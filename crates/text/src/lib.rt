@@ -1,6 +1,8 @@
 // Text: fields, numbers and digits, as definitions in specs/ with their promise, and laws in proofs/. Here are only the types that they need.
+#![tactic(auto)]
+
 // What a field says that should be a number.
-#[derive(Drop)]
+#[derive(Clone, Copy)]
 pub enum Number {
     Read(u32),
     Unreadable,
@@ -14,14 +16,14 @@ impl Number {
 }
 
 // What a field of a line says that should be a number: the number, and the place where the field ends.
-#[derive(Drop)]
+#[derive(Clone, Copy)]
 pub enum Scanned {
     Number(u32, usize),
     Unreadable,
 }
 
 // The digits that begin at a place of a text: the number that they write, and the place where they end.
-#[derive(Drop)]
+#[derive(Clone, Copy)]
 pub struct Run {
     pub number: Number,
     pub end: usize,

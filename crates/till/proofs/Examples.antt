@@ -7,7 +7,7 @@ use Rattle.rule.specs.Schedules.{same_table}
 use Rattle.rule.proofs.Schedules.{same-table}
 use Rattle.text.specs.Bytes.{bytes_of}
 use Rattle.text.specs.Numbers.{digits, leads, value_from, is_number}
-use Rattle.csv.specs.Reader.{is_text, is_inside, plain_of, inside_of, field_of, end_of, record_of}
+use Rattle.rfc4180.specs.Reader.{is_text, is_inside, plain_of, inside_of, field_of, end_of, record_of}
 use Rattle.till.specs.Till.{front_of, read_behind, reading_of, dealt}
 use Rattle.till.specs.Examples.{Example, outcome, Says, readings, not_numbers, not_records, strange, sequences, AllSay, ReadingsPromise}
 

@@ -10,9 +10,9 @@ use Rattle.text.specs.Numbers.{number_of}
 use Rattle.text.specs.declared.Number.{Number}
 use Rattle.text.proofs.Test.{impossible}
 use Rattle.text.proofs.Theorem.{text-promise}
-use Rattle.csv.specs.Grammar.{Begins, Pair, pair, values}
-use Rattle.csv.specs.Reader.{Parsed, record_of}
-use Rattle.csv.proofs.Theorem.{csv-promise}
+use Rattle.rfc4180.specs.Grammar.{Begins, Pair, pair, values}
+use Rattle.rfc4180.specs.Reader.{Parsed, record_of}
+use Rattle.rfc4180.proofs.Theorem.{csv-promise}
 use Rattle.till.specs.Till.{Line, line, Front, front_by, front_with, front_of}
 use Rattle.till.specs.Promise.{Fits, written, FitsLine, NoNumber}
 

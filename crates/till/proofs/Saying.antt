@@ -6,10 +6,10 @@ use Prim.Native.Nat.{ℕ, zero, suc, ◌≤◌, ◌<◌}
 use native.Mathlib.Omega.{arith}
 use lib.ListN.{length, drop, length-drop}
 use Rattle.text.proofs.Test.{impossible}
-use Rattle.csv.specs.Grammar.{File, Begins, Pair, pair, values, rows}
-use Rattle.csv.specs.Promise.{Chain}
-use Rattle.csv.proofs.Records.{begins-some, chain-some}
-use Rattle.csv.proofs.Theorem.{csv-promise}
+use Rattle.rfc4180.specs.Grammar.{File, Begins, Pair, pair, values, rows}
+use Rattle.rfc4180.specs.Promise.{Chain}
+use Rattle.rfc4180.proofs.Records.{begins-some, chain-some}
+use Rattle.rfc4180.proofs.Theorem.{csv-promise}
 use Rattle.till.specs.Till.{Line, Front, front_of, Reading, in_front, read_behind, reading_of}
 use Rattle.till.specs.Promise.{FitsLine, written, AllFit, Holds, Lines, Reaches, Broken, Wrong}
 use Rattle.till.proofs.Fronts.{IsWrong, Is, front-is, line-front, wrong-front, broken-front}

@@ -1,7 +1,7 @@
 -- What is promised of till lists, by the grammar of RFC 4180 and the digits of numbers. Proved in proofs/Theorem.
 use Rattle.std.specs.Prelude.{◌≡◌, ◌≢◌, ◌↔◌, ◌⊎◌, List, [], ◌∷◌, map, ℕ, ◌%◌, ◌≤◌, ◌<◌, length, get_or}
 use Rattle.text.specs.Digits.{digits_of}
-use Rattle.csv.specs.Grammar.{File, Begins, Pair, pair, values, rows}
+use Rattle.rfc4180.specs.Grammar.{File, Begins, Pair, pair, values, rows}
 use Rattle.orders.specs.Orders.{blank, order_with, orders_of}
 use Rattle.orders.specs.declared.Order.{Order}
 use Rattle.state.specs.Counts.{count_number, count_value}

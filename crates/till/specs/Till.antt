@@ -2,8 +2,8 @@
 use Rattle.std.specs.Prelude.{Bool, true, false, cond, List, [], ◌∷◌, ◌++◌, map, ℕ, zero, suc, ltb, length, drop}
 use Rattle.text.specs.Numbers.{number_of}
 use Rattle.text.specs.declared.Number.{Number}
-use Rattle.csv.specs.Grammar.{pair}
-use Rattle.csv.specs.Reader.{Parsed, record_of}
+use Rattle.rfc4180.specs.Grammar.{pair}
+use Rattle.rfc4180.specs.Reader.{Parsed, record_of}
 use Rattle.orders.specs.Orders.{order_with, orders_of}
 use Rattle.orders.specs.declared.Order.{Order}
 use Rattle.state.specs.Counts.{counted_by, if_counted}

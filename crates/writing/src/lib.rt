@@ -1,4 +1,6 @@
 // Text written: bytes and numbers put into a lent buffer.
+#![tactic(auto)]
+
 ghost use Rattle.std.specs.Prelude.{◌≡◌, ◌+◌, leb, length};
 ghost use Rattle.text.specs.Digits.{digits_of};
 ghost use Rattle.text.specs.Put.{put_at, place_after};
