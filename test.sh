@@ -5,15 +5,17 @@ set -u -o pipefail
 cd "$(dirname "$0")" || exit 1
 log=$(mktemp) || exit 1
 trap 'rm -f "$log"' EXIT
-# rt waits for all jobs of a group before it starts the next ones: with more jobs than processors none of those stands idle
-export RT_JOBS="${RT_JOBS:-4}"
 rt ci 2>&1 | tee "$log" || exit 1
+# an edit that does not fit the text any more is only counted there
+if grep -Eq '^rt: ok.*, [1-9][0-9]* bad' "$log"; then
+    exit 1
+fi
 last=$(tail -n 1 "$log")
 case $last in
   *' passed, 0 failed') ;;
   *) exit 1 ;;
 esac
-rt staticlib gateway >/dev/null && rt staticlib kiosk >/dev/null || exit 1
+./build.sh >/dev/null || exit 1
 export VULZEGAN_TARGET="$PWD/target"
 cargo test --quiet --release --offline --manifest-path reference/Cargo.toml || exit 1
 cargo test --quiet --release --offline --manifest-path conformance/Cargo.toml || exit 1

@@ -1,7 +1,7 @@
-//! Links the static libraries that `rt staticlib gateway` and `rt staticlib kiosk` write. VULZEGAN_TARGET names the folder that `rt` builds into.
+//! Links the static libraries of gateway and kiosk that `./build.sh` writes. VULZEGAN_TARGET names the folder that it builds into.
 
 fn main() {
-    let target = std::env::var("VULZEGAN_TARGET").expect("VULZEGAN_TARGET names rt's target folder");
+    let target = std::env::var("VULZEGAN_TARGET").expect("VULZEGAN_TARGET names the folder that ./build.sh builds into");
     println!("cargo:rerun-if-env-changed=VULZEGAN_TARGET");
     println!("cargo:rustc-link-search=native={target}/staticlib");
     for library in ["gateway", "kiosk"] {

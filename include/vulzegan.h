@@ -1,4 +1,4 @@
-/* The functions of libgateway.a and libkiosk.a, for C on x86-64: write an archive with `rt staticlib gateway` or `rt staticlib kiosk` and link it.
+/* The functions of libgateway.a and libkiosk.a, for C on x86-64: `./build.sh` writes the archives into target/staticlib; link one.
  *
  * A lent list is a pointer, never null, and the number of its elements.
  * Cells and lists that a function may change overlap no other list of the same call.

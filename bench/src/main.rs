@@ -553,7 +553,7 @@ fn moves(model: Model, labels: usize, from: usize, to: usize) {
 }
 
 fn main() {
-    let target = std::env::var("VULZEGAN_TARGET").expect("VULZEGAN_TARGET names rt's target folder");
+    let target = std::env::var("VULZEGAN_TARGET").expect("VULZEGAN_TARGET names the folder that build.sh writes");
     println!("| job | proved | reference | ratio |\n|---|---|---|---|");
     replays(&target);
     turns(GATEWAY, 4096, "");

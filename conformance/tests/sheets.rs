@@ -17,7 +17,7 @@ use reference::phase::{FIRST_TEST_LABEL, LOOK_UP, TAKE_OUT};
 use reference::sheet::replay_bytes;
 
 fn program() -> PathBuf {
-    let target = std::env::var("VULZEGAN_TARGET").expect("VULZEGAN_TARGET names rt's target folder");
+    let target = std::env::var("VULZEGAN_TARGET").expect("VULZEGAN_TARGET names the folder that build.sh writes");
     Path::new(&target).join("bin/replay")
 }
 
@@ -410,11 +410,11 @@ fn closed_output() {
     said(&output, UNWRITTEN);
 }
 
-/// A reader that has gone: the system's signal ends the program, and it tells nothing.
+/// A reader that has gone: the program ends, and it tells nothing. (Its start-up code ignores the system's signal for that, which ended it before.)
 #[test]
 fn a_reader_that_has_gone() {
     let (from, to) = pipe(WHOLE);
     drop(from);
     let output = run(b"list\n", WHOLE, to.into());
-    assert!(output.status.code().is_none() && output.stderr.is_empty(), "{output:?}");
+    assert!(output.status.code() == Some(0) && output.stderr.is_empty(), "{output:?}");
 }
