@@ -48,34 +48,30 @@ pub fn list_front<'a>(hash: Hash, cells: &[u64], out: &'a mut [u64]) -> &'a mut 
     rest::list_front(Device::Gateway, hash, cells, out)
 }
 
-// ---- for C and Rust
+// ---- for C and Rust: the crate that writes the archive exports them
 // Whether the table is sound by a and b: 0, or the number of the refusal.
-#[unsafe(no_mangle)]
-pub extern "C" fn vulzegan_check(a: u32, b: u32, cells: &[u64]) -> u64
+pub fn vulzegan_check(a: u32, b: u32, cells: &[u64]) -> u64
     ensures { result ≡ reply_answer (check_call gateway (hash_of a b) cells.now) }
 {
     answers::check(Device::Gateway, a, b, cells)
 }
 
 // How many keys the table has.
-#[unsafe(no_mangle)]
-pub extern "C" fn vulzegan_count(a: u32, b: u32, cells: &[u64]) -> u64
+pub fn vulzegan_count(a: u32, b: u32, cells: &[u64]) -> u64
     ensures { result ≡ counted_answer (count_call gateway (hash_of a b) cells.now) }
 {
     answers::count(Device::Gateway, a, b, cells)
 }
 
 // Lists the entries, each key with its price, in cell order at the front of `out`.
-#[unsafe(no_mangle)]
-pub extern "C" fn vulzegan_list(a: u32, b: u32, cells: &[u64], out: &mut [u64]) -> u64
+pub fn vulzegan_list(a: u32, b: u32, cells: &[u64], out: &mut [u64]) -> u64
     ensures { ListNumbers gateway (hash_of a b) cells.now out.old result out.new }
 {
     answers::list(Device::Gateway, a, b, cells, out)
 }
 
 // Reads a till list into a list of orders, lent as its keys, its prices and its workers, for a crew of so many: how many records the text has.
-#[unsafe(no_mangle)]
-pub extern "C" fn vulzegan_read_till(
+pub fn vulzegan_read_till(
     text: &[u8],
     count: u64,
     keys: &mut [u32],
@@ -89,15 +85,7 @@ pub extern "C" fn vulzegan_read_till(
 }
 
 // Whether a phase may be opened: 0, or the number of the refusal.
-#[unsafe(no_mangle)]
-pub extern "C" fn vulzegan_open(
-    kind: u64,
-    count: u64,
-    a: u32,
-    b: u32,
-    cells: &[u64],
-    orders: &[Order],
-) -> u64
+pub fn vulzegan_open(kind: u64, count: u64, a: u32, b: u32, cells: &[u64], orders: &[Order]) -> u64
     ensures { result ≡ reply_answer (open_call gateway kind count (hash_of a b) cells.now orders.now).reply }
 {
     let opened = Phase::open(Device::Gateway, kind, count, Hash { a, b }, cells, orders);
@@ -106,8 +94,7 @@ pub extern "C" fn vulzegan_open(
 
 // Opens a phase, an insert phase with a list of orders, and if the opening is accepted, applies calls, each lent that list: 0, or the number of the
 // opening's refusal.
-#[unsafe(no_mangle)]
-pub extern "C" fn vulzegan_run_calls(
+pub fn vulzegan_run_calls(
     kind: u64,
     count: u64,
     a: u32,
@@ -149,8 +136,7 @@ pub extern "C" fn vulzegan_run_calls(
 }
 
 // The same, each call by value with the phase tested at each, as single calls are.
-#[unsafe(no_mangle)]
-pub extern "C" fn vulzegan_run_calls_singly(
+pub fn vulzegan_run_calls_singly(
     kind: u64,
     count: u64,
     a: u32,
@@ -193,8 +179,7 @@ pub extern "C" fn vulzegan_run_calls_singly(
 
 // ---- reply rounds
 // Opens a round with the list sent: 0, or the number of the refusal.
-#[unsafe(no_mangle)]
-pub extern "C" fn vulzegan_round_open(
+pub fn vulzegan_round_open(
     count: u64,
     a: u32,
     b: u32,
@@ -211,8 +196,7 @@ pub extern "C" fn vulzegan_round_open(
 
 // Closes a round with the replies: how many labels are left, or the number of the refusal. `answers` takes the number of each reply's answer, 0 if it is
 // accepted, and `out` what is left.
-#[unsafe(no_mangle)]
-pub extern "C" fn vulzegan_round_close(
+pub fn vulzegan_round_close(
     count: u64,
     a: u32,
     b: u32,
@@ -240,8 +224,7 @@ pub extern "C" fn vulzegan_round_close(
 
 // ---- moves
 // Opens a move shift from the table `old` to the new one and, if the opening is accepted, applies calls: 0, or the number of the opening's refusal.
-#[unsafe(no_mangle)]
-pub extern "C" fn vulzegan_run_moves(
+pub fn vulzegan_run_moves(
     count: u64,
     a: u32,
     b: u32,
