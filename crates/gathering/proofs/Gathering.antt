@@ -68,3 +68,5 @@ module _ {bytes line₀ : List ℕ} {gathered : ℕ} {line : List ℕ} {len i : 
 -- what a line says is what the bytes kept of it say
 pub said : {l line : List ℕ} {n : ℕ} {r : Line} → Gathers l line n → r ≡ reading_of (take n line) → r ≡ reading_of l
 said {l} g e = e ∙ ap reading_of g.first ∙ (lines-promise.reading l).front
+
+pub ruleset full_rules = (full)

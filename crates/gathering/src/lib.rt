@@ -8,6 +8,7 @@ ghost use Rattle.gathering.specs.Gathers.{Gathers};
 use lines::Line;
 
 // Gathers bytes of a line behind those gathered before. What follows the bytes kept of a line does not change what it says.
+#[tactic(auto, using(crate::proofs::Gathering::full_rules), unfolding(lines::specs::Grammar::longest_line, lines::specs::Grammar::kept_bytes))]
 pub fn gather(bytes: &[u8], line: &mut [u8], gathered: usize) -> usize
     requires { (gathered ≤ kept_bytes) × (kept_bytes ≤ length line.old) }
     ensures { Gathers (take gathered line.old ++ bytes.now) line.new result }

@@ -25,6 +25,7 @@ pub fn same_bytes(a: &[u8], b: &[u8]) -> bool
 }
 
 // The place of the first such byte, or the length.
+#[tactic(auto, using(crate::proofs::Sought::sought_rules))]
 pub fn byte_at(s: &[u8], byte: u8) -> usize
     ensures { result ≡ byte_at byte s.now }
 {
@@ -42,6 +43,7 @@ pub fn byte_at(s: &[u8], byte: u8) -> usize
 const ROOM: u64 = 1152921504606846976;
 
 // The digits that begin at `from`, in one pass; the value is tested behind the last one.
+#[tactic(auto, using(crate::proofs::Gathered::gathered_rules))]
 pub fn digits_at(s: &[u8], from: usize) -> Run
     ensures { result ≡ run_at s.now from }
 {
@@ -91,6 +93,7 @@ pub fn digits_at(s: &[u8], from: usize) -> Run
 }
 
 // The number of the field that begins at `from`.
+#[tactic(auto, using(crate::proofs::Fields::field_rules))]
 pub fn scan_number(s: &[u8], from: usize) -> Scanned
     ensures { result ≡ scanned_at s.now from }
 {

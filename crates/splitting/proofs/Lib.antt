@@ -1,4 +1,5 @@
 pub mod Ends
 pub mod Parts
 pub mod Places
+pub mod Quoted
 pub mod Scans

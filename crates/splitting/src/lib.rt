@@ -118,6 +118,7 @@ fn plain_at(text: &[u8], at: usize) -> Field
 }
 
 // The field whose opening quote stands before `at`. It is a number if the closing quote stands behind its digits.
+#[tactic(auto, using(crate::proofs::Quoted::quoted_rules))]
 fn quoted_at(text: &[u8], at: usize) -> Field
     ensures { result ≡ field_from at (inside_of (drop at text.now)) }
 {
