@@ -1,4 +1,5 @@
 -- A closed phase that put in one new key, and one that took it out again: by what is promised of lists of calls and of one entry more.
+use Rattle.std.specs.Prelude.{Ok}
 use mathlib.Core.Path.{◌≡◌, refl, sym, ap, ◌∙◌, subst}
 use mathlib.Core.Logic.{◌≢◌, ◌↔◌, inl, inr, ⊎_elim}
 use mathlib.Core.Bool.{true}
@@ -22,7 +23,6 @@ use Rattle.orders.specs.Orders.{ordered_keys}
 use Rattle.orders.specs.declared.Order.{Order}
 use Rattle.state.specs.Model.{Model, Proper}
 use Rattle.state.specs.Open.{open_reply}
-use Rattle.state.specs.declared.Reply.TheVariants.{Accepted}
 use Rattle.protocol.specs.WellFormed.{Crew}
 use Rattle.protocol.proofs.Theorem.{open-passed, passed-opens}
 use Rattle.history.specs.History.{Call, after}
@@ -32,7 +32,7 @@ use Rattle.history.proofs.Opening.{homes}
 use Rattle.history.proofs.Theorem.{history}
 use Rattle.addition.specs.Promise.{Alone, AdditionPromise}
 
-module _ (M : Model) (proper : Proper M) (m : ℕ) (ab : Hash) (t : List ℕ) (os : List Order) (ok : open_reply M 1 m ab t os ≡ Accepted)
+module _ (M : Model) (proper : Proper M) (m : ℕ) (ab : Hash) (t : List ℕ) (os : List Order) (ok : open_reply M 1 m ab t os ≡ Ok tt)
     (l : ℕ) (lacks : In l (labels label t) → ⊥) (cs : List Call) (shut : (after M 1 m ab t os cs).closed ≡ true) (alone : Alone l (after M 1 m ab t os cs).ordered) where
   abbrev n : ℕ
   n = length t
@@ -107,7 +107,7 @@ module _ (M : Model) (proper : Proper M) (m : ℕ) (ab : Hash) (t : List ℕ) (o
   long : length u ≡ n
   long = claim.numbers.sized
 
-  opens : (m' : ℕ) → Crew M m' → (os' : List Order) → open_reply M 2 m' ab u os' ≡ Accepted
+  opens : (m' : ℕ) → Crew M m' → (os' : List Order) → open_reply M 2 m' ab u os' ≡ Ok tt
   opens m' crew os' =
       let p = open-passed M 1 m ab t os ok in
       passed-opens M 2 m' ab u os' proper
@@ -120,7 +120,7 @@ module _ (M : Model) (proper : Proper M) (m : ℕ) (ab : Hash) (t : List ℕ) (o
         list = λ e. absurd (omega arith);
       })
 
-  restored : (m' : ℕ) (os' : List Order) → open_reply M 2 m' ab u os' ≡ Accepted → (cs' : List Call) → (after M 2 m' ab u os' cs').closed ≡ true
+  restored : (m' : ℕ) (os' : List Order) → open_reply M 2 m' ab u os' ≡ Ok tt → (cs' : List Call) → (after M 2 m' ab u os' cs').closed ≡ true
       → Alone l (after M 2 m' ab u os' cs').ordered → (after M 2 m' ab u os' cs').table ≡ t
   restored m' os' ok' cs' shut' alone' =
       let out : List ℕ = (after M 2 m' ab u os' cs').ordered in

@@ -1,6 +1,6 @@
 -- What is promised of a phase whose only key is new, and of one that takes it out again (document 02, point 11), however many workers there are and
 -- however the turns fall. Proved in proofs/Theorem.
-use Rattle.std.specs.Prelude.{◌≡◌, true, List, ◌∷◌, ℕ, ◌≤◌, ◌<◌, length, get_or}
+use Rattle.std.specs.Prelude.{◌≡◌, true, List, ◌∷◌, ℕ, ◌≤◌, ◌<◌, length, get_or, Ok}
 use Rattle.layout.specs.Layout.{In}
 use Rattle.homes.specs.Promise.{Odd}
 use Rattle.homes.specs.declared.Hash.{Hash}
@@ -13,7 +13,6 @@ use Rattle.orders.specs.declared.Order.{Order}
 use Rattle.state.specs.Model.{Model, Proper}
 use Rattle.state.specs.Open.{open_reply}
 use Rattle.state.specs.Refusals.{reply_number}
-use Rattle.state.specs.declared.Reply.TheVariants.{Accepted}
 use Rattle.protocol.specs.Lines.{Good}
 use Rattle.protocol.specs.Promise.{Soundness}
 use Rattle.protocol.specs.WellFormed.{Size, Crew}
@@ -35,13 +34,13 @@ pub record Added (M : Model) (ab : Hash) (t : List ℕ) (l : ℕ) (ordered u : L
   pub two : 2 ≤ vacant t
   pub reaches : Reaches (length t) label (M.home ab (length t)) t entry u
   -- a delete phase opens on u, and one by which l alone is taken out leaves t again, prices included
-  pub opens : (m : ℕ) → Crew M m → (os : List Order) → open_reply M 2 m ab u os ≡ Accepted
-  pub restored : (m : ℕ) (os : List Order) → open_reply M 2 m ab u os ≡ Accepted → (cs : List Call) → (after M 2 m ab u os cs).closed ≡ true
+  pub opens : (m : ℕ) → Crew M m → (os : List Order) → open_reply M 2 m ab u os ≡ Ok tt
+  pub restored : (m : ℕ) (os : List Order) → open_reply M 2 m ab u os ≡ Ok tt → (cs : List Call) → (after M 2 m ab u os cs).closed ≡ true
       → Alone l (after M 2 m ab u os cs).ordered → (after M 2 m ab u os cs).table ≡ t
 
 -- from an accepted opening on a table that lacks l: however many workers put it in, at whatever prices and however often
 abbrev pub Adds : Model → Type 0
-Adds M = (m : ℕ) (ab : Hash) (t : List ℕ) (os : List Order) → open_reply M 1 m ab t os ≡ Accepted
+Adds M = (m : ℕ) (ab : Hash) (t : List ℕ) (os : List Order) → open_reply M 1 m ab t os ≡ Ok tt
     → (l : ℕ) → (In l (labels label t) → ⊥) → (cs : List Call) → (after M 1 m ab t os cs).closed ≡ true
     → Alone l (after M 1 m ab t os cs).ordered → Added M ab t l (after M 1 m ab t os cs).ordered (after M 1 m ab t os cs).table
 

@@ -6,7 +6,7 @@ use Prim.Native.Nat.{ℕ, ◌+◌, ◌^◌, ◌≤◌, ◌<◌}
 use native.Mathlib.Omega.{arith}
 use lib.ListN.{length, get_or, take, drop, length-append}
 use lib.Seq.{sets, take-append_seam}
-use Rattle.orders.specs.Orders.{order_with, orders_of}
+use Rattle.orders.specs.Orders.{order_with}
 use Rattle.orders.specs.declared.Order.{Order}
 use Rattle.state.specs.declared.Phase.{Phase}
 use Rattle.text.specs.Digits.{digits_of}
@@ -18,13 +18,12 @@ use Rattle.printing.specs.Fields.{Printed, PrintedWithin, told_fields}
 use Rattle.printing.proofs.Printing.{all-written, printed-on, as_long}
 use Rattle.answering.specs.declared.Answered.{Answered}
 use Rattle.answering.specs.declared.Done.{Done}
-use Rattle.fitting.specs.declared.Reading.{Reading}
-use Rattle.fitting.specs.declared.Reading.TheVariants.{Todo, Bad}
+use Rattle.std.specs.Prelude.{Option, None, Some}
 use Rattle.answering.specs.declared.Replay.{Replay}
 use Rattle.fitting.specs.declared.Task.{Task}
 use Rattle.fitting.specs.declared.Task.TheVariants.{Perform}
 use Rattle.sheet.specs.Replay.{State, blank, performed, Answer, answered, answer_of, rendered, most_sheet_cells, longest_answer}
-use Rattle.fitting.specs.Fitting.{most_items, item_places, Kept, reading_in}
+use Rattle.fitting.specs.Fitting.{most_items, Kept, reading_in}
 use Rattle.answering.specs.Store.{state_of, replay_of, over, answered_of, Roomy, Does, Finds, Ready, Answers}
 use Rattle.sheet.specs.Valid.{Valid}
 use Rattle.answering.proofs.Store.{table-length, same_store, so-many}
@@ -32,8 +31,7 @@ use Rattle.sheet.proofs.Valid.{blank-valid, valid-kept, allowed}
 use Rattle.printing.specs.Widths.{told_width}
 
 -- what `start` gives is ready for a first line
-pub blank-ready : (r : Replay) (cells items : List ℕ) → r ≡ replay_of blank → most_sheet_cells ≤ length cells → item_places ≤ length items → Ready r cells items
-unfolding orders_of
+pub blank-ready : (r : Replay) (cells : List ℕ) (items : List Order) → r ≡ replay_of blank → most_sheet_cells ≤ length cells → most_items ≤ length items → Ready r cells items
 blank-ready r cells items e l m = rw e (record { roomy = record { fits = omega arith; most = l }; kept = (omega arith, m); valid = blank-valid })
 
 -- ---- what is printed
@@ -66,22 +64,22 @@ line-printed n {b} {out} {between} {written} {after} {at} {from} {place} {behind
     let q : Printed (10 ∷ []) written place after behind = all-written (omega (arith, m.1, as_long m.0, p.place, as_long p)) f in
     (printed-on p (printed-on m.0 q), omega (arith, p.place, m.1, q.place))
 
-module _ {r : Replay} {cells items : List ℕ} (h : Ready r cells items) (l : Line) where
+module _ {r : Replay} {cells : List ℕ} {items : List Order} (h : Ready r cells items) (l : Line) where
   abbrev state : State
   state = state_of r cells items
 
   -- the line as it is read where so many items are kept
-  pub as_read : {x y : Reading} → x ≡ reading_in r.phase.kind r.items r.phase.shut l → x ≡ y
+  pub as_read : {x y : Option Task} → x ≡ reading_in r.phase.kind r.items r.phase.shut l → x ≡ y
       → reading_in r.phase.kind (length state.items) r.phase.shut l ≡ y
   as_read e f = ap (λ c. reading_in r.phase.kind c r.phase.shut l) (so-many r.items items h.kept) ∙ sym e ∙ f
 
   module _ (n at : ℕ) (out : List ℕ) where
     -- ---- a bad line
-    pub answers-bad : reading_in r.phase.kind (length state.items) r.phase.shut l ≡ Bad → (out' : List ℕ) (end : ℕ)
+    pub answers-bad : reading_in r.phase.kind (length state.items) r.phase.shut l ≡ None → (out' : List ℕ) (end : ℕ)
         → PrintedWithin longest_answer (digits_of n ++ 9 ∷ 98 ∷ 97 ∷ 100 ∷ 10 ∷ []) out at out' end
         → Answers state n l cells out at cells items out' (record { replay = r; at = end; ended = true })
     answers-bad e out' end p =
-        let a : answer_of state l ≡ answered state Bad l.numbers.values = unfold answer_of in (ap (λ (x : Reading). answered state x l.numbers.values) e) in
+        let a : answer_of state l ≡ answered state None = unfold answer_of in (ap (answered state) e) in
         record {
           result = same (sym (table-length h.roomy)) (sym (so-many r.items items h.kept)) p.0.place ∙ ap (answered_of n at) (sym a);
           store = same_store h.roomy ∙ ap (λ (x : Answer). over x.state.table cells) (sym a);
@@ -97,30 +95,30 @@ module _ {r : Replay} {cells items : List ℕ} (h : Ready r cells items) (l : Li
         same f g i = rw (f, g, i)
 
   -- ---- a task
-  module _ {t : Task} (e : reading_in r.phase.kind (length state.items) r.phase.shut l ≡ Todo t) where
-    is-todo : answer_of state l ≡ answered state (Todo t) l.numbers.values
+  module _ {t : Task} (e : reading_in r.phase.kind (length state.items) r.phase.shut l ≡ Some t) where
+    is-todo : answer_of state l ≡ answered state (Some t)
     unfolding answer_of
-    is-todo = ap (λ (x : Reading). answered state x l.numbers.values) e
+    is-todo = ap (answered state) e
 
     abbrev next : State
-    next = (performed state t l.numbers.values).state
+    next = (performed state t).state
 
     next-valid : Valid next
     next-valid = rw is-todo at (valid-kept state h.valid l)
 
     -- with one item more there are few enough
-    one_more : t ≡ Perform Command.Item → r.items < most_items
-    one_more q =
-        let o : Order = order_with (get_or l.numbers.values 1 0) (get_or l.numbers.values 2 0) (get_or l.numbers.values 0 0) in
+    one_more : (ns : List ℕ) → t ≡ Perform Command.Item ns → r.items < most_items
+    one_more ns q =
+        let o : Order = order_with (get_or ns 1 0) (get_or ns 2 0) (get_or ns 0 0) in
         let few : length (state.items ++ (o ∷ [])) ≤ most_items =
-        subst (λ (x : Task). length (performed state x l.numbers.values).state.items ≤ most_items) q next-valid.items in
+        subst (λ (x : Task). length (performed state x).state.items ≤ most_items) q next-valid.items in
         omega (arith, few, length-append state.items (o ∷ []), so-many r.items items h.kept)
 
     -- what it must find
     pub finds : Finds r cells items t
     finds = record { roomy = h.roomy; kept = h.kept; runs = allowed state h.valid l t e; place = one_more }
 
-    module _ {d : Done} {cells' items' : List ℕ} (does : Does (performed state t l.numbers.values) cells cells' items' d)
+    module _ {d : Done} {cells' : List ℕ} {items' : List Order} (does : Does (performed state t) cells cells' items' d)
         (kept : length cells' ≡ length cells) (places : length items' ≡ length items) where
       pub next-roomy : Roomy d.replay cells'
       next-roomy =
@@ -143,7 +141,7 @@ module _ {r : Replay} {cells items : List ℕ} (h : Ready r cells items) (l : Li
           same f g i = rw (f, g, i)
 
       bytes : told_fields d.told d.replay.phase.crew d.finishes (take d.replay.length cells') ++ 10 ∷ []
-          ≡ (answered state (Todo t) l.numbers.values).printed
+          ≡ (answered state (Some t)).printed
       bytes = ap₂ (λ (x : Done) y. told_fields x.told x.replay.phase.crew x.finishes y ++ 10 ∷ []) does.result table_is
 
       pub answers-todo : (n at : ℕ) (out out' : List ℕ) (end : ℕ)
@@ -152,7 +150,7 @@ module _ {r : Replay} {cells items : List ℕ} (h : Ready r cells items) (l : Li
           → Answers state n l cells out at cells' items' out' (record { replay = d.replay; at = end; ended = false })
       answers-todo n at out out' end p =
           let b : digits_of n ++ (told_fields d.told d.replay.phase.crew d.finishes (take d.replay.length cells') ++ 10 ∷ [])
-          ≡ rendered n (answered state (Todo t) l.numbers.values) =
+          ≡ rendered n (answered state (Some t)) =
           ap (λ (x : List ℕ). digits_of n ++ x) bytes in
           record {
             result = ap₂ (λ (x : Done) y. let q : Answered = record { replay = x.replay; at = y; ended = false } in q) does.result

@@ -10,17 +10,16 @@ use borrow.Author.Tests.{eqb-true, eqb-false}
 use lib.Dec.{eqb}
 use Rattle.homes.specs.declared.Hash.{Hash}
 use Rattle.prices.specs.Contents.{label}
-use Rattle.orders.specs.Orders.{order_with, line_at, kept_orders}
-use Rattle.orders.specs.declared.Found.{Found}
+use Rattle.orders.specs.Orders.{order_with, line_at}
 use Rattle.orders.specs.declared.Order.{Order}
 use Rattle.activities.specs.Activities.{activity_ok, idle}
 use Rattle.state.specs.Model.{Model, gateway}
 use Rattle.state.proofs.Model.{gateway-proper}
 use Rattle.state.specs.declared.Phase.{Phase}
 use Rattle.state.specs.declared.Replied.{Replied}
-use Rattle.state.specs.declared.Reply.{Reply}
+use Rattle.state.specs.Replies.{Reply}
 use Rattle.activities.specs.declared.Worker.{Worker}
-use Rattle.protocol.specs.declared.TurnReply.{TurnReply}
+use Rattle.protocol.specs.Replies.{TurnReply}
 use Rattle.protocol.specs.Calls.{with_worker, order_to, order_found, order_call}
 use Rattle.protocol.specs.Split.{one_order, one_turn, one_cells}
 use Rattle.protocol.specs.IsWellFormed.{is_well_formed}
@@ -44,9 +43,9 @@ use Rattle.answering.specs.declared.Replay.{Replay}
 use Rattle.sheet.specs.Replay.{commanded, longest_answer}
 use Rattle.answering.specs.Store.{state_of, told_of, replied_of, Does, Ready, Answers}
 use Rattle.answering.specs.declared.Answered.{Answered}
-use Rattle.answering.specs.declared.Ordered.{Ordered}
-use Rattle.answering.specs.declared.Stepped.{Stepped}
+use Rattle.answering.specs.declared.Worked.{Worked}
 use Rattle.fitting.specs.declared.Aim.{Aim}
+use Rattle.std.specs.Prelude.{Option, Some}
 use Rattle.answering.specs.One.{line_with, OrderAnswers, TurnAnswers}
 use Rattle.fitting.specs.Fitting.{most_items}
 use Rattle.fitting.proofs.Fitting.{Names, Aimed}
@@ -63,23 +62,22 @@ module _ (M : Model) (p : Phase) (o : Order) where
   abbrev given : Replied
   given = order_to M p false o.worker o.key o.price
 
-  by_place : (f : Found) (w v : ℕ) → f ≡ record { there = true; order = o } → eqb p.kind 1 ≡ true → order_found M p f w v ≡ given
-  by_place f w v e t = ap (λ (x : Found). order_found M p x w v) e ∙ rw t refl
+  by_place : (f : Option Order) (w v : ℕ) → f ≡ Some o → eqb p.kind 1 ≡ true → order_found M p f w v ≡ given
+  by_place f w v e t = ap (λ (x : Option Order). order_found M p x w v) e ∙ rw t refl
 
-  by_key : (f : Found) (w v : ℕ) → o ≡ order_with v 0 w → eqb p.kind 1 ≡ false → order_found M p f w v ≡ given
+  by_key : (f : Option Order) (w v : ℕ) → o ≡ order_with v 0 w → eqb p.kind 1 ≡ false → order_found M p f w v ≡ given
   by_key f w v e t = rw t refl ∙ ap (λ (x : Order). order_to M p false x.worker x.key x.price) (sym e)
 
-  names-asked : (l : Line) (os : List Order) → Names p.kind l os o
-      → order_call M p os (get_or l.numbers.values 0 0) (get_or l.numbers.values 0 0) (get_or l.numbers.values 1 0) ≡ given
-  names-asked l os names =
-      let i = get_or l.numbers.values 0 0 in
-      let v = get_or l.numbers.values 1 0 in
+  names-asked : (ns : List ℕ) (os : List Order) → Names p.kind ns os o → order_call M p os (get_or ns 0 0) (get_or ns 0 0) (get_or ns 1 0) ≡ given
+  names-asked ns os names =
+      let i = get_or ns 0 0 in
+      let v = get_or ns 1 0 in
       by-test (eqb p.kind 1)
       (λ t. by_place (line_at os i) i v (names.placed (eqb-true p.kind 1 t)) t)
       (λ t. by_key (line_at os i) i v (names.named (eqb-false p.kind 1 t)) t)
 
 -- ---- a replay whose phase is open, and a worker of it
-module _ (cells items : List ℕ) (w : ℕ) (x : Replay) (ready : Ready x cells items) (up : x.phase.shut ≡ false) (below : w < x.phase.crew) where
+module _ (cells : List ℕ) (items : List Order) (w : ℕ) (x : Replay) (ready : Ready x cells items) (up : x.phase.shut ≡ false) (below : w < x.phase.crew) where
   abbrev table : List ℕ
   table = take x.length cells
 
@@ -87,7 +85,7 @@ module _ (cells items : List ℕ) (w : ℕ) (x : Replay) (ready : Ready x cells 
   worker = get_or x.phase.workers w idle
 
   abbrev list : List Order
-  list = kept_orders most_items x.items items
+  list = take x.items items
 
   abbrev reached : Reached gateway list x.phase table
   reached = ready.valid.reached up
@@ -98,63 +96,62 @@ module _ (cells items : List ℕ) (w : ℕ) (x : Replay) (ready : Ready x cells 
   fits : x.phase.length ≡ length table
   fits = sized gateway gateway-proper reached.kind reached.crew reached.hash reached.opened list x.phase table reached.by
 
-  turn-here : (l : Line) → Aimed x.phase.kind x.phase.shut l x.phase.crew list (Aim.Turn w)
+  turn-here : (l : Line) → Aimed x.phase.kind x.phase.shut l x.phase.crew list (Some (Aim.Turn w))
       → (m : Moved) (u : List ℕ) → m ≡ one_turn gateway x.phase.kind x.phase.hash x.phase.length table worker
       → u ≡ one_cells gateway x.phase.kind x.phase.hash x.phase.length table worker → length u ≡ length table
       → (kept : length (u ++ drop x.length cells) ≡ length cells)
       → (n at : ℕ) (out out' : List ℕ) (end : ℕ) → PrintedWithin longest_answer (line_with n (turn_fields m.reply)) out at out' end
       → Answers (state_of x cells items) n l cells out at (u ++ drop x.length cells) items out' (went x w m.worker end)
-  turn-here l to m u e f long kept n at out out' end p =
+  turn-here l (ns, to, is) m u e f long kept n at out out' end p =
       let (a, b) = turn-by-one gateway x.phase table w good up fits below in
       let d : Done = told_of (with-moved x.phase w m).phase x.length x.items (told.Turned m.reply) in
-      let does : Does (commanded (state_of x cells items) Command.Turn l.numbers.values) cells (u ++ drop x.length cells) items d =
-      rw to.1 (turns ready.roomy w (with-moved x.phase w m) u d (ap (with-moved x.phase w) e ∙ a, f ∙ b) long refl items ready.kept) in
-      answers-todo ready l to.0.asked does kept refl n at out out' end p
+      let does : Does (commanded (state_of x cells items) Command.Turn ns) cells (u ++ drop x.length cells) items d =
+      rw is (turns ready.roomy w (with-moved x.phase w m) u d (ap (with-moved x.phase w) e ∙ a, f ∙ b) long refl items ready.kept) in
+      answers-todo ready l to.asked does kept refl n at out out' end p
 
-  order-here : (l : Line) (v cents : ℕ) → Aimed x.phase.kind x.phase.shut l x.phase.crew list (Aim.Order w v cents)
+  order-here : (l : Line) (v cents : ℕ) → Aimed x.phase.kind x.phase.shut l x.phase.crew list (Some (Aim.Order (order_with v cents w)))
       → (g : Given) → g ≡ one_order gateway x.phase.kind x.phase.hash x.phase.length worker v cents
       → (n at : ℕ) (out out' : List ℕ) (end : ℕ) → PrintedWithin longest_answer (line_with n (reply_fields g.reply)) out at out' end
       → Answers (state_of x cells items) n l cells out at cells items out' (went x w g.worker end)
-  order-here l v cents to g e n at out out' end p =
-      let ns = l.numbers.values in
+  order-here l v cents (ns, to, names) g e n at out out' end p =
       let o : Replied = order_call gateway x.phase list (get_or ns 0 0) (get_or ns 0 0) (get_or ns 1 0) in
       let d : Done = replied_of x.length x.items (with-given x.phase w g) in
       let called : with-given x.phase w g ≡ o =
       ap (with-given x.phase w) e ∙ order-by-one gateway x.phase w v cents good up below
-      ∙ sym (names-asked gateway x.phase (order_with v cents w) l list to.1) in
+      ∙ sym (names-asked gateway x.phase (order_with v cents w) ns list names) in
       let same : d ≡ replied_of x.length x.items o = ap (replied_of x.length x.items) called in
       let does : Does (commanded (state_of x cells items) Command.Order ns) cells cells items d =
       tells-on ready.roomy items ready.kept o.phase (told.Replied o.reply) d same in
-      answers-todo ready l to.0.asked does refl refl n at out out' end p
+      answers-todo ready l to.asked does refl refl n at out out' end p
 
 stays : (u cells : List ℕ) (k : ℕ) → k ≤ length cells → length u ≡ length (take k cells) → length (u ++ drop k cells) ≡ length cells
 stays u cells k b l = omega (arith, length-append u (drop k cells), length-drop k cells, length-take-le k cells b)
 
 -- ---- what the functions ensure, said of a replay that has this worker
-module _ {cells items : List ℕ} {w : ℕ} {x : Replay} (ready : Ready x cells items) {l : Line} {number at : ℕ} {out out' : List ℕ} where
-  pub order-line : {v cents : ℕ} {r : Ordered}
-      → Aimed x.phase.kind x.phase.shut l x.phase.crew (kept_orders most_items x.items items) (Aim.Order w v cents)
-      → OrderAnswers x.phase.kind x.phase.hash x.phase.length (get_or x.phase.workers w idle) v cents number out at out' r
-      → Answers (state_of x cells items) number l cells out at cells items out' (went x w r.worker r.at)
-  order-line {v} {cents} {r} to h =
-      rw h.worker (order-here cells items w x ready to.0.up to.0.below l v cents to _ refl number at out out' r.at h.printed)
+module _ {cells : List ℕ} {items : List Order} {x : Replay} (ready : Ready x cells items) {l : Line} {number at : ℕ} {out out' : List ℕ} where
+  pub order-line : {o : Order} {r : Worked}
+      → Aimed x.phase.kind x.phase.shut l x.phase.crew (take x.items items) (Some (Aim.Order o))
+      → OrderAnswers x.phase.kind x.phase.hash x.phase.length (get_or x.phase.workers o.worker idle) o.key o.price number out at out' r
+      → Answers (state_of x cells items) number l cells out at cells items out' (went x o.worker r.worker r.at)
+  order-line {o} {r} to h =
+      rw h.worker (order-here cells items o.worker x ready to.1.up to.1.below l o.key o.price to _ refl number at out out' r.at h.printed)
 
-  pub turn-line : {cells' : List ℕ} {r : Stepped}
-      → Aimed x.phase.kind x.phase.shut l x.phase.crew (kept_orders most_items x.items items) (Aim.Turn w)
+  pub turn-line : {w : ℕ} {cells' : List ℕ} {r : Worked}
+      → Aimed x.phase.kind x.phase.shut l x.phase.crew (take x.items items) (Some (Aim.Turn w))
       → TurnAnswers x.phase.kind x.phase.hash x.phase.length (get_or x.phase.workers w idle) number x.length cells out at cells' out' r
       → Answers (state_of x cells items) number l cells out at cells' items out' (went x w r.worker r.at)
-  turn-line {r = r} to h =
+  turn-line {w} {r = r} to h =
       let t = take x.length cells in
       let a = get_or x.phase.workers w idle in
       let long = one-long gateway x.phase.kind x.phase.hash x.phase.length t a in
       let kept = stays (one_cells gateway x.phase.kind x.phase.hash x.phase.length t a) cells x.length (inside ready.roomy) long in
-      rw (h.worker, h.store) (turn-here cells items w x ready to.0.up to.0.below l to _ _ refl refl long kept number at out out' r.at h.printed)
+      rw (h.worker, h.store) (turn-here cells items w x ready to.1.up to.1.below l to _ _ refl refl long kept number at out out' r.at h.printed)
 
 -- the phase's length is not 0
-pub some-cells : (cells items : List ℕ) (x : Replay) → Ready x cells items → x.phase.shut ≡ false → 0 < x.phase.length
+pub some-cells : (cells : List ℕ) (items : List Order) (x : Replay) → Ready x cells items → x.phase.shut ≡ false → 0 < x.phase.length
 some-cells cells items x ready up =
     let r = ready.valid.reached up in
-    let os = kept_orders most_items x.items items in
+    let os = take x.items items in
     let t = take x.length cells in
     omega (
       arith,
@@ -163,10 +160,10 @@ some-cells cells items x ready up =
     )
 
 -- the phase has no more workers than the record has places
-pub few-crew : (cells items : List ℕ) (x : Replay) → Ready x cells items → x.phase.shut ≡ false → x.phase.crew ≤ gateway.room
+pub few-crew : (cells : List ℕ) (items : List Order) (x : Replay) → Ready x cells items → x.phase.shut ≡ false → x.phase.crew ≤ gateway.room
 few-crew cells items x ready up =
     let r = ready.valid.reached up in
-    let os = kept_orders most_items x.items items in
+    let os = take x.items items in
     let t = take x.length cells in
     omega (
       arith,
@@ -175,7 +172,7 @@ few-crew cells items x ready up =
     )
 
 -- what a turn of one of its workers must find
-pub good-worker : (cells items : List ℕ) (x : Replay) → Ready x cells items → x.phase.shut ≡ false → (w : ℕ) → w < x.phase.crew
+pub good-worker : (cells : List ℕ) (items : List Order) (x : Replay) → Ready x cells items → x.phase.shut ≡ false → (w : ℕ) → w < x.phase.crew
     → (activity_ok x.phase.kind x.phase.length label (get_or x.phase.workers w idle).activity ≡ true) × (x.phase.length ≡ x.length)
 good-worker cells items x ready up w below =
     let p = x.phase in (

@@ -1,4 +1,5 @@
--- The table in the first places of the lent cells, and the items in the lent numbers.
+-- The table in the first places of the lent cells, and the items in those of the lent orders.
+use Rattle.std.specs.Prelude.{Ok, Err}
 use mathlib.Core.Path.{◌≡◌, refl, sym, ap, ap₂, ◌∙◌}
 use mathlib.Core.Bool.{false}
 use mathlib.Core.List.{List, ◌++◌}
@@ -6,13 +7,12 @@ use Prim.Native.Nat.{ℕ, ◌+◌, ◌-◌, ◌≤◌, ◌<◌}
 use native.Mathlib.Numerals.{add-one}
 use native.Mathlib.Omega.{arith}
 use lib.ListN.{length, take, drop, set, replicate, length-replicate, length-set, take-append-drop}
-use lib.Seq.{length-take-le}
+use lib.Seq.{length-take-le, take-suc-set}
 use borrow.Author.Tests.{le-ltb, lt-ltb}
 use lib.Dec.{ltb, eqb}
 use Rattle.homes.specs.declared.Hash.{Hash}
-use Rattle.orders.specs.Orders.{orders_of, kept_orders}
+use Rattle.orders.specs.Orders.{order_with}
 use Rattle.orders.specs.declared.Order.{Order}
-use Rattle.parallel.proofs.Kept.{kept-length, kept_store}
 use Rattle.words.specs.Words.{count_of}
 use Rattle.words.proofs.Theorem.{theorem}
 use Rattle.words.proofs.Words.{occupied-le}
@@ -26,9 +26,7 @@ use Rattle.state.specs.declared.Phase.{Phase}
 use Rattle.state.specs.declared.Refusal.{Refusal}
 use Rattle.state.specs.declared.Refusal.TheVariants.{Size}
 use Rattle.state.specs.declared.Replied.{Replied}
-use Rattle.state.specs.declared.Reply.{Reply}
-use Rattle.state.specs.declared.Reply.TheVariants as reply
-use Rattle.state.specs.declared.Counted.{Counted}
+use Rattle.state.specs.Replies.{Reply, Counted}
 use Rattle.printing.specs.declared.Told.{Told}
 use Rattle.printing.specs.declared.Told.TheVariants as told
 use Rattle.fitting.specs.Fitting.{most_items, Kept}
@@ -50,12 +48,8 @@ module _ {r : Replay} {cells : List ℕ} (h : Roomy r cells) where
   same_store = rw table-length (sym (take-append-drop r.length cells))
 
 -- ---- the items
-pub so-many : (c : ℕ) (items : List ℕ) → Kept c items → length (kept_orders most_items c items) ≡ c
-so-many c items k = kept-length most_items c items (omega (arith, k.0, k.1)) k.0
-
--- the parts as the code cuts them
-pub cut : (n c : ℕ) (xs : List ℕ) → take (n + c - n) (drop n xs) ≡ take c (drop n xs)
-cut n c xs = let e : n + c - n ≡ c = omega arith in ap (λ x. take x (drop n xs)) e
+pub so-many : (c : ℕ) (items : List Order) → Kept c items → length (take c items) ≡ c
+so-many c items k = length-take-le c items (omega (arith, k.0, k.1))
 
 -- ---- what the tasks leave, from what the calls ensure
 module _ {r : Replay} {cells : List ℕ} (h : Roomy r cells) where
@@ -63,12 +57,12 @@ module _ {r : Replay} {cells : List ℕ} (h : Roomy r cells) where
   table = take r.length cells
 
   -- a task that leaves the cells alone
-  tells-with : (c : ℕ) (items : List ℕ) → Kept c items → (os : List Order) → kept_orders most_items c items ≡ os → (p : Phase) (a : Told) (d : Done)
+  tells-with : (c : ℕ) (items : List Order) → Kept c items → (os : List Order) → take c items ≡ os → (p : Phase) (a : Told) (d : Done)
       → d ≡ told_of p r.length c a → Does (tells (record { phase = p; table = table; items = os }) a) cells cells items d
   tells-with c items k os e p a d b = record {
     result = b ∙ ap₂ (λ n m. told_of p n m a) (sym (table-length h)) (sym (so-many c items k) ∙ ap length e);
     store = same_store h;
-    list = ap (λ (x : Done). kept_orders most_items x.replay.items items) b ∙ e;
+    list = ap (λ (x : Done). take x.replay.items items) b ∙ e;
   }
 
   -- a table that is as long as the first places and stands there
@@ -85,7 +79,7 @@ module _ {r : Replay} {cells : List ℕ} (h : Roomy r cells) where
       record {
         result = b ∙ same x (turn_call gateway r.phase table w) e.0 (long u _ e.1 l) (sym (so-many r.items items k));
         store = stored u _ e.1 l;
-        list = ap (λ (y : Done). kept_orders most_items y.replay.items items) b;
+        list = ap (λ (y : Done). take y.replay.items items) b;
       }
     where
       same : (x y : Turned) {n l c m : ℕ} → x ≡ y → n ≡ l → c ≡ m
@@ -106,23 +100,18 @@ module _ {r : Replay} {cells : List ℕ} (h : Roomy r cells) where
       same x y a e f = rw (a, e, f)
 
   -- one item more
-  pub added : (w v cents : ℕ) (items : List ℕ) → Kept r.items items → r.items < most_items → (d : Done)
-      → d ≡ told_of r.phase r.length (r.items + 1) (told.Replied reply.Accepted)
-      → Does (item_task (state_of r cells items) w v cents) cells cells
-      (set (set (set items r.items v) (most_items + r.items) cents) (most_items + most_items + r.items) w) d
+  pub added : (w v cents : ℕ) (items : List Order) → Kept r.items items → r.items < most_items → (d : Done)
+      → d ≡ told_of r.phase r.length (r.items + 1) (told.Replied (Ok tt))
+      → Does (item_task (state_of r cells items) w v cents) cells cells (set items r.items (order_with v cents w)) d
   added w v cents items k l d b =
-      let one : List ℕ = set items r.items v in
-      let two : List ℕ = set one (most_items + r.items) cents in
-      let places : length (set two (most_items + most_items + r.items) w) ≡ length items
-      = length-set two (most_items + most_items + r.items) w ∙ length-set one (most_items + r.items) cents ∙ length-set items r.items v in
-      tells-with (r.items + 1) (set two (most_items + most_items + r.items) w) (omega arith, omega (arith, places, k.1)) _
-      (ap (λ n. kept_orders most_items n (set two (most_items + most_items + r.items) w)) (add-one r.items)
-      ∙ kept_store most_items r.items items v cents w l (omega (arith, k.1)))
-      r.phase (told.Replied reply.Accepted) d b
+      let o : Order = order_with v cents w in
+      tells-with (r.items + 1) (set items r.items o) (omega (arith, k.0), omega (arith, length-set items r.items o, k.1)) _
+      (ap (λ n. take n (set items r.items o)) (add-one r.items) ∙ take-suc-set items r.items o (omega (arith, k.1)))
+      r.phase (told.Replied (Ok tt)) d b
 
-  module _ (items : List ℕ) (k : Kept r.items items) where
+  module _ (items : List Order) (k : Kept r.items items) where
     abbrev list : List Order
-    list = kept_orders most_items r.items items
+    list = take r.items items
 
     -- a call that leaves the cells and the items alone
     pub tells-on : (p : Phase) (a : Told) (d : Done) → d ≡ told_of p r.length r.items a
@@ -131,13 +120,12 @@ module _ {r : Replay} {cells : List ℕ} (h : Roomy r cells) where
 
     -- the items behind a close
     few-after : (kind : ℕ) (a : Reply) → count_after kind a r.items ≤ most_items
-    few-after kind reply.Accepted = by-test (eqb kind 1) (λ t. rw t (omega arith)) (λ t. rw t k.0)
-    few-after kind (reply.Refused _) = k.0
+    few-after kind (Ok _) = by-test (eqb kind 1) (λ t. rw t (omega arith)) (λ t. rw t k.0)
+    few-after kind (Err _) = k.0
 
-    kept-after : (kind : ℕ) (a : Reply) → kept_orders most_items (count_after kind a r.items) items ≡ items_after kind a list
-    unfolding orders_of
-    kept-after kind reply.Accepted = by-test (eqb kind 1) (λ t. rw t refl) (λ t. rw t refl)
-    kept-after kind (reply.Refused _) = refl
+    kept-after : (kind : ℕ) (a : Reply) → take (count_after kind a r.items) items ≡ items_after kind a list
+    kept-after kind (Ok _) = by-test (eqb kind 1) (λ t. rw t refl) (λ t. rw t refl)
+    kept-after kind (Err _) = refl
 
     pub closes : (p : Phase) (kind : ℕ) (a : Reply) (d : Done) → d ≡ told_of p r.length (count_after kind a r.items) (told.Replied a)
         → Does (tells (record { phase = p; table = table; items = items_after kind a list }) (told.Replied a)) cells cells items d
@@ -145,16 +133,16 @@ module _ {r : Replay} {cells : List ℕ} (h : Roomy r cells) where
         tells-with (count_after kind a r.items) items (few-after kind a, k.1) (items_after kind a list) (kept-after kind a) p (told.Replied a) d b
 
     -- ---- a fresh table
-    refuses : (d : Done) → d ≡ told_of r.phase r.length r.items (told.Replied (reply.Refused Size))
-        → Does (tells (state_of r cells items) (told.Replied (reply.Refused Size))) cells cells items d
-    refuses d b = tells-on r.phase (told.Replied (reply.Refused Size)) d b
+    refuses : (d : Done) → d ≡ told_of r.phase r.length r.items (told.Replied (Err Size))
+        → Does (tells (state_of r cells items) (told.Replied (Err Size))) cells cells items d
+    refuses d b = tells-on r.phase (told.Replied (Err Size)) d b
 
-  pub too_short : (n : ℕ) (d : Done) → n < 2 → d ≡ told_of r.phase r.length r.items (told.Replied (reply.Refused Size))
+  pub too_short : (n : ℕ) (d : Done) → n < 2 → d ≡ told_of r.phase r.length r.items (told.Replied (Err Size))
       → Leaves r (λ (s : State). cells_task s n) cells cells d
   too_short n d l b items k = rw (lt-ltb n 2 l) (refuses items k d b)
 
   pub too_long : (n : ℕ) (d : Done) → gateway.fewest_cells ≤ n → most_sheet_cells < n
-      → d ≡ told_of r.phase r.length r.items (told.Replied (reply.Refused Size))
+      → d ≡ told_of r.phase r.length r.items (told.Replied (Err Size))
       → Leaves r (λ (s : State). cells_task s n) cells cells d
   too_long n d l m b items k = rw (le-ltb n 2 l, lt-ltb most_sheet_cells n m) (refuses items k d b)
 
@@ -162,14 +150,14 @@ module _ {r : Replay} {cells : List ℕ} (h : Roomy r cells) where
   taken-front n l = sym (length-take-le n cells (omega (arith, h.most)))
 
   pub fresh : (n : ℕ) (u : List ℕ) (d : Done) → gateway.fewest_cells ≤ n → n ≤ most_sheet_cells → u ≡ replicate (length (take n cells)) 0
-      → d ≡ told_of r.phase n r.items (told.Replied reply.Accepted) → Leaves r (λ (s : State). cells_task s n) cells (u ++ drop n cells) d
+      → d ≡ told_of r.phase n r.items (told.Replied (Ok tt)) → Leaves r (λ (s : State). cells_task s n) cells (u ++ drop n cells) d
   fresh n u d l m a b items k =
       let e : u ≡ replicate n 0 = rw (← taken-front n m) at a in
       rw (le-ltb n 2 l, le-ltb most_sheet_cells n m)
       (record {
-        result = b ∙ ap₂ (λ x y. told_of r.phase x y (told.Replied reply.Accepted)) (sym (length-replicate n _)) (sym (so-many r.items items k));
+        result = b ∙ ap₂ (λ x y. told_of r.phase x y (told.Replied (Ok tt))) (sym (length-replicate n _)) (sym (so-many r.items items k));
         store = ap₂ (λ (t : List ℕ) x. t ++ drop x cells) e (sym (length-replicate n _));
-        list = ap (λ (y : Done). kept_orders most_items y.replay.items items) b;
+        list = ap (λ (y : Done). take y.replay.items items) b;
       })
 
 -- ---- the list of a table into a list as long as it
@@ -182,8 +170,8 @@ lists p n c ab t x y d e a b = b ∙ ap (λ (z : Counted). told_of p n c (list_t
 
 -- ---- an opening, by what it answers
 module _ (p : Phase) (n c : ℕ) (x y : Replied) (d : Done) (same : x ≡ y) where
-  pub opened-on : x.reply ≡ reply.Accepted → d ≡ told_of x.phase n c (told.Replied reply.Accepted) → d ≡ opened_of p n c y
+  pub opened-on : x.reply ≡ Ok tt → d ≡ told_of x.phase n c (told.Replied (Ok tt)) → d ≡ opened_of p n c y
   opened-on e told = rw (← same, e) told
 
-  pub opened-off : (r : Refusal) → x.reply ≡ reply.Refused r → d ≡ told_of p n c (told.Replied (reply.Refused r)) → d ≡ opened_of p n c y
+  pub opened-off : (r : Refusal) → x.reply ≡ Err r → d ≡ told_of p n c (told.Replied (Err r)) → d ≡ opened_of p n c y
   opened-off r e told = rw (← same, e) told

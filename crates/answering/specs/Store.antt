@@ -1,12 +1,11 @@
--- The replay as the code keeps it: a record that goes by value, a lent list of cells whose first places are the table, and a lent list of numbers that keeps
--- the items.
-use Rattle.std.specs.Prelude.{◌≡◌, cond, List, ◌++◌, ℕ, ◌+◌, ◌≤◌, ◌<◌, eqb, length, take, drop}
+-- The replay as the code keeps it: a record that goes by value, a lent list of cells whose first places are the table, and a lent list of orders whose first
+-- are the items.
+use Rattle.std.specs.Prelude.{◌≡◌, cond, List, ◌++◌, ℕ, ◌+◌, ◌≤◌, ◌<◌, eqb, length, take, drop, Ok, Err}
 use Rattle.std.proofs.lemmas.List.Edits.{sets}
-use Rattle.orders.specs.Orders.{kept_orders}
+use Rattle.orders.specs.declared.Order.{Order}
 use Rattle.state.specs.declared.Phase.{Phase}
 use Rattle.state.specs.declared.Replied.{Replied}
-use Rattle.state.specs.declared.Reply.{Reply}
-use Rattle.state.specs.declared.Reply.TheVariants.{Accepted, Refused}
+use Rattle.state.specs.Replies.{Reply}
 use Rattle.lines.specs.declared.Command.{Command}
 use Rattle.lines.specs.declared.Line.{Line}
 use Rattle.printing.specs.declared.Told.{Told}
@@ -19,8 +18,8 @@ use Rattle.answering.specs.declared.Replay.{Replay}
 use Rattle.sheet.specs.Replay.{State, Step, no_finishes, phase_after, item_task, Answer, answer_of, rendered, most_sheet_cells, longest_answer}
 use Rattle.sheet.specs.Valid.{Valid, RunFinds}
 
-abbrev pub state_of : Replay → (cells items : List ℕ) → State
-state_of r cells items = record { phase = r.phase; table = take r.length cells; items = kept_orders most_items r.items items }
+abbrev pub state_of : Replay → (cells : List ℕ) (items : List Order) → State
+state_of r cells items = record { phase = r.phase; table = take r.length cells; items = take r.items items }
 
 abbrev pub replay_of : State → Replay
 replay_of s = record { phase = s.phase; length = length s.table; items = length s.items }
@@ -46,8 +45,8 @@ opened_of p n c x = told_of (phase_after x.reply p x.phase) n c (Told.Replied x.
 
 -- how many of c items a close with this answer leaves, in a phase of kind k
 abbrev pub count_after : ℕ → Reply → ℕ → ℕ
-count_after k Accepted c = cond (eqb k 1) 0 c
-count_after k (Refused r) c = c
+count_after k (Ok _) c = cond (eqb k 1) 0 c
+count_after k (Err r) c = c
 
 -- the store has room for the longest table of a sheet
 pub record Roomy (r : Replay) (cells : List ℕ) : Type 0 where
@@ -55,29 +54,29 @@ pub record Roomy (r : Replay) (cells : List ℕ) : Type 0 where
   pub most : most_sheet_cells ≤ length cells
 
 -- ---- what a task leaves. Left free: what stands behind the items
-pub record Does (d : Step) (cells cells' items' : List ℕ) (r : Done) : Type 0 where
+pub record Does (d : Step) (cells cells' : List ℕ) (items' : List Order) (r : Done) : Type 0 where
   pub result : r ≡ done_of d
   pub store : cells' ≡ over d.state.table cells
-  pub list : kept_orders most_items r.replay.items items' ≡ d.state.items
+  pub list : take r.replay.items items' ≡ d.state.items
 
 -- a task that leaves the items alone, in whatever list they are kept
 abbrev pub Leaves : Replay → (State → Step) → (cells cells' : List ℕ) → Done → Type 0
-Leaves r task cells cells' d = (items : List ℕ) → Kept r.items items → Does (task (state_of r cells items)) cells cells' items d
+Leaves r task cells cells' d = (items : List Order) → Kept r.items items → Does (task (state_of r cells items)) cells cells' items d
 
 -- one item more, whatever the cells are
-abbrev pub Adds : Replay → (w v cents : ℕ) → (items items' : List ℕ) → Done → Type 0
+abbrev pub Adds : Replay → (w v cents : ℕ) → (items items' : List Order) → Done → Type 0
 Adds r w v cents items items' d = (cells : List ℕ) → Roomy r cells → Does (item_task (state_of r cells items) w v cents) cells cells items' d
 
 -- ---- what a task must find
-pub record Finds (r : Replay) (cells items : List ℕ) (t : Task) : Type 0 where
+pub record Finds (r : Replay) (cells : List ℕ) (items : List Order) (t : Task) : Type 0 where
   pub roomy : Roomy r cells
   pub kept : Kept r.items items
   pub runs : RunFinds (state_of r cells items) t
   -- a place for one item more
-  pub place : t ≡ Perform Command.Item → r.items < most_items
+  pub place : (ns : List ℕ) → t ≡ Perform Command.Item ns → r.items < most_items
 
 -- what a line must find: a state that lines lead to, cells for the longest table, and places for all items
-pub record Ready (r : Replay) (cells items : List ℕ) : Type 0 where
+pub record Ready (r : Replay) (cells : List ℕ) (items : List Order) : Type 0 where
   pub roomy : Roomy r cells
   pub kept : Kept r.items items
   pub valid : Valid (state_of r cells items)
@@ -87,10 +86,10 @@ pub record Ready (r : Replay) (cells items : List ℕ) : Type 0 where
 abbrev pub answered_of : ℕ → ℕ → Answer → Answered
 answered_of n at a = record { replay = replay_of a.state; at = at + length (rendered n a); ended = a.ended }
 
-pub record Answers (s : State) (n : ℕ) (l : Line) (cells out : List ℕ) (at : ℕ) (cells' items' out' : List ℕ) (r : Answered) : Type 0 where
+pub record Answers (s : State) (n : ℕ) (l : Line) (cells out : List ℕ) (at : ℕ) (cells' : List ℕ) (items' : List Order) (out' : List ℕ) (r : Answered) : Type 0 where
   pub result : r ≡ answered_of n at (answer_of s l)
   pub store : cells' ≡ over (answer_of s l).state.table cells
-  pub list : kept_orders most_items r.replay.items items' ≡ (answer_of s l).state.items
+  pub list : take r.replay.items items' ≡ (answer_of s l).state.items
   pub output : out' ≡ sets out at (rendered n (answer_of s l))
   -- it takes no more bytes than the longest line
   pub short : r.at ≤ at + longest_answer

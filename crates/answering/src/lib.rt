@@ -6,7 +6,6 @@ ghost use Rattle.prices.specs.Contents.{label};
 ghost use Rattle.activities.specs.Activities.{activity_ok};
 ghost use Rattle.state.specs.Model.{gateway};
 ghost use Rattle.state.specs.Open.{open_call};
-ghost use Rattle.orders.specs.Orders.{kept_orders};
 ghost use Rattle.protocol.specs.Calls.{close_call, order_call};
 ghost use Rattle.tables.specs.Calls.{list_call};
 ghost use Rattle.fitting.specs.Fitting.{most_items, Kept};
@@ -16,14 +15,16 @@ ghost use Rattle.answering.specs.One.{OrderAnswers, TurnAnswers};
 ghost use Rattle.dealing.specs.Reached.{Led};
 
 use activities::Worker;
-use dealing::Finish;
-use fitting::{Reading, Task};
+use dealing::{Dealt, Ended};
+use fitting::Task;
 use homes::Hash;
 use lines::{Command, Line};
+use orders::Order;
 use printing::Told;
-use state::{Counted, Device, Phase, Refusal, Reply};
+use protocol::{Given, Moved, Turned};
+use state::{Device, Phase, Refusal, Replied};
 
-// What is kept from line to line, beside the lent cells and the numbers of the items: the phase, how many of the cells are the table, and how many items
+// What is kept from line to line, beside the lent cells and items: the phase, how many of the cells are the table, and how many items
 // there are.
 #[derive(Clone, Copy)]
 pub struct Replay {
@@ -45,7 +46,7 @@ impl Replay {
 pub struct Done {
     pub replay: Replay,
     pub told: Told,
-    pub finishes: [Finish; Phase::ROOM],
+    pub finishes: [Option<Ended>; Phase::ROOM],
 }
 
 // The replay after a line, the place behind what the line printed, and whether the replay ends there.
@@ -56,16 +57,9 @@ pub struct Answered {
     pub ended: bool,
 }
 
-// What an order to one worker leaves: the worker, and the place behind what the line printed.
+// What an order to one worker or a turn of it leaves: the worker, and the place behind what the line printed.
 #[derive(Clone, Copy)]
-pub struct Ordered {
-    pub worker: Worker,
-    pub at: usize,
-}
-
-// What a turn of one worker leaves.
-#[derive(Clone, Copy)]
-pub struct Stepped {
+pub struct Worked {
     pub worker: Worker,
     pub at: usize,
 }
@@ -75,38 +69,23 @@ pub fn start() -> Replay
     ensures { result ≡ replay_of blank }
 {
     let one = [0u64; 1];
-    let none = [0u32; 1];
-    let refused = Phase::open_parallel(
-        Device::Gateway,
-        3,
-        1,
-        Hash { a: 1, b: 0 },
-        &one,
-        &none,
-        &none,
-        &none,
-    );
-    let phase = refused.phase;
+    let unlisted: &[Order] = &[];
+    let refused = Phase::open(Device::Gateway, 3, 1, Hash { a: 1, b: 0 }, &one, unlisted);
     Replay {
-        phase,
+        phase: refused.phase,
         length: 0,
         items: 0,
     }
 }
 
 // ---- the tasks
-fn tell(phase: Phase, length: usize, items: usize, told: Told) -> Done
-    ensures { result ≡ told_of phase length items told }
+fn tell(replay: Replay, told: Told) -> Done
+    ensures { result ≡ told_of replay.phase replay.length replay.items told }
 {
-    let finishes = dealing::no_finishes();
     Done {
-        replay: Replay {
-            phase,
-            length,
-            items,
-        },
+        replay,
         told,
-        finishes,
+        finishes: dealing::no_finishes(),
     }
 }
 
@@ -115,28 +94,16 @@ fn set_cells(replay: Replay, length: u32, cells: &mut [u64]) -> Done
     ensures { Leaves replay (λ (s : State). cells_task s length) cells.old cells.new result }
 {
     let n = length as usize;
-    if n < Phase::FEWEST_CELLS {
-        return tell(
-            replay.phase,
-            replay.length,
-            replay.items,
-            Told::Replied(Reply::Refused(Refusal::Size)),
-        );
-    }
-    if Replay::MOST_CELLS < n {
-        return tell(
-            replay.phase,
-            replay.length,
-            replay.items,
-            Told::Replied(Reply::Refused(Refusal::Size)),
-        );
+    if n < Phase::FEWEST_CELLS || Replay::MOST_CELLS < n {
+        return tell(replay, Told::Replied(Err(Refusal::Size)));
     }
     rest::clear(&mut cells[..n]);
     tell(
-        replay.phase,
-        n,
-        replay.items,
-        Told::Replied(Reply::Accepted),
+        Replay {
+            length: n,
+            ..replay
+        },
+        Told::Replied(Ok(())),
     )
 }
 
@@ -147,122 +114,92 @@ fn open_phase(
     crew: u32,
     hash: Hash,
     cells: &[u64],
-    items: &[u32],
+    items: &[Order],
 ) -> Done
     requires { Roomy replay cells.now × Kept replay.items items.now }
     ensures { result ≡ opened_of replay.phase replay.length replay.items
-        (open_call gateway kind crew hash (take replay.length cells.now) (kept_orders most_items replay.items items.now)) }
+        (open_call gateway kind crew hash (take replay.length cells.now) (take replay.items items.now)) }
 {
-    let length = replay.length;
-    let count = replay.items;
-    let prices = fitting::MOST_ITEMS;
-    let prices_end = prices + count;
-    let workers = 2 * fitting::MOST_ITEMS;
-    let workers_end = workers + count;
-    let replied = Phase::open_parallel(
+    let replied = Phase::open(
         Device::Gateway,
         kind as u64,
         crew as u64,
         hash,
-        &cells[..length],
-        &items[..count],
-        &items[prices..prices_end],
-        &items[workers..workers_end],
+        &cells[..replay.length],
+        &items[..replay.items],
     );
-    let phase = replied.phase;
-    let reply = replied.reply;
-    match reply {
-        Reply::Accepted => tell(phase, length, count, Told::Replied(Reply::Accepted)),
-        Reply::Refused(why) => tell(
-            replay.phase,
-            length,
-            count,
-            Told::Replied(Reply::Refused(why)),
-        ),
-    }
+    let phase = match replied.reply {
+        Ok(()) => replied.phase,
+        Err(_) => replay.phase,
+    };
+    tell(Replay { phase, ..replay }, Told::Replied(replied.reply))
 }
 
-// Stores one item more: its key, its price and its worker behind those of the others.
-fn add_item(replay: Replay, worker: u32, key: u32, price: u32, items: &mut [u32]) -> Done
+// Stores one item more behind the others.
+fn add_item(replay: Replay, worker: u32, key: u32, price: u32, items: &mut [Order]) -> Done
     requires { Kept replay.items items.old × (replay.items < most_items) }
     ensures { Adds replay worker key price items.old items.new result }
 {
     let count = replay.items;
-    items[count] = key;
-    items[fitting::MOST_ITEMS + count] = price;
-    items[2 * fitting::MOST_ITEMS + count] = worker;
+    items[count] = Order { key, price, worker };
     tell(
-        replay.phase,
-        replay.length,
-        count + 1,
-        Told::Replied(Reply::Accepted),
+        Replay {
+            items: count + 1,
+            ..replay
+        },
+        Told::Replied(Ok(())),
     )
 }
 
 // An insert phase reads the item at place `first`, the others worker `first` and a key.
-fn give_order(replay: Replay, first: u32, key: u32, items: &[u32]) -> Done
+fn give_order(replay: Replay, first: u32, key: u32, items: &[Order]) -> Done
     requires { Kept replay.items items.now }
     ensures { result ≡ replied_of replay.length replay.items
-        (order_call gateway replay.phase (kept_orders most_items replay.items items.now) first first key) }
+        (order_call gateway replay.phase (take replay.items items.now) first first key) }
 {
-    let phase = replay.phase;
-    let count = replay.items;
-    let found = dispatching::item_at(items, count, first as usize);
-    let replied = calls::order_found(Device::Gateway, phase, found, first as usize, key);
-    let next = replied.phase;
-    let reply = replied.reply;
-    tell(next, replay.length, count, Told::Replied(reply))
+    let found = items[..replay.items].get(first as usize).copied();
+    let Replied { phase, reply } = calls::order_found(
+        Device::Gateway,
+        replay.phase,
+        found,
+        first as usize,
+        key,
+    );
+    tell(Replay { phase, ..replay }, Told::Replied(reply))
 }
 
 fn take_turn(replay: Replay, worker: u32, cells: &mut [u64]) -> Done
     requires { Roomy replay cells.old }
     ensures { Leaves replay (λ (s : State). turn_task s worker) cells.old cells.new result }
 {
-    let length = replay.length;
-    let phase = replay.phase;
-    let turned = calls::turn(
+    let Turned { phase, reply } = calls::turn(
         Device::Gateway,
-        phase,
-        &mut cells[..length],
+        replay.phase,
+        &mut cells[..replay.length],
         worker as usize,
     );
-    let next = turned.phase;
-    let reply = turned.reply;
-    tell(next, length, replay.items, Told::Turned(reply))
+    tell(Replay { phase, ..replay }, Told::Turned(reply))
 }
 
 fn run_out(replay: Replay, cells: &mut [u64]) -> Done
     requires { Roomy replay cells.old × (Led gateway replay.phase (take replay.length cells.old) × (replay.phase.shut ≡ false)) }
     ensures { Leaves replay run_task cells.old cells.new result }
 {
-    let length = replay.length;
-    let phase = replay.phase;
-    let dealt = dealing::run(phase, &mut cells[..length]);
-    let next = dealt.phase;
-    let finishes = dealt.finishes;
+    let Dealt { phase, finishes } = dealing::run(replay.phase, &mut cells[..replay.length]);
     Done {
-        replay: Replay {
-            phase: next,
-            length,
-            items: replay.items,
-        },
+        replay: Replay { phase, ..replay },
         told: Told::Ran,
         finishes,
     }
 }
 
 // How many items are left after a close with this answer: none, if it shut an insert phase.
-fn items_after(kind: u32, reply: Reply, items: usize) -> usize
+fn items_after(kind: u32, reply: Result<(), Refusal>, items: usize) -> usize
     ensures { result ≡ count_after kind reply items }
 {
     match reply {
-        Reply::Accepted => {
-            if kind == 1 {
-                return 0;
-            }
-            items
-        }
-        Reply::Refused(_) => items,
+        Ok(()) if kind == 1 => 0,
+        _ => items,
     }
 }
 
@@ -270,12 +207,16 @@ fn close_phase(replay: Replay) -> Done
     ensures { result ≡ replied_of replay.length (count_after replay.phase.kind (close_call gateway replay.phase).reply replay.items)
         (close_call gateway replay.phase) }
 {
-    let phase = replay.phase;
-    let replied = calls::close(Device::Gateway, phase);
-    let next = replied.phase;
-    let reply = replied.reply;
-    let items = items_after(phase.kind, reply, replay.items);
-    tell(next, replay.length, items, Told::Replied(reply))
+    let Replied { phase, reply } = calls::close(Device::Gateway, replay.phase);
+    let items = items_after(replay.phase.kind, reply, replay.items);
+    tell(
+        Replay {
+            phase,
+            items,
+            ..replay
+        },
+        Told::Replied(reply),
+    )
 }
 
 fn list_table(replay: Replay, cells: &[u64]) -> Done
@@ -283,17 +224,10 @@ fn list_table(replay: Replay, cells: &[u64]) -> Done
     ensures { result ≡ told_of replay.phase replay.length replay.items
         (list_told (list_call gateway replay.phase.hash (take replay.length cells.now) (take replay.length cells.now))) }
 {
-    let length = replay.length;
-    let phase = replay.phase;
-    let counted = rest::count(Device::Gateway, phase.hash, &cells[..length]);
+    let counted = rest::count(Device::Gateway, replay.phase.hash, &cells[..replay.length]);
     match counted {
-        Counted::Count(count) => tell(phase, length, replay.items, Told::Listed(count)),
-        Counted::Refused(why) => tell(
-            phase,
-            length,
-            replay.items,
-            Told::Replied(Reply::Refused(why)),
-        ),
+        Ok(count) => tell(replay, Told::Listed(count)),
+        Err(why) => tell(replay, Told::Replied(Err(why))),
     }
 }
 
@@ -303,9 +237,9 @@ fn carry_out(
     command: Command,
     values: [u32; Line::MOST_NUMBERS],
     cells: &mut [u64],
-    items: &mut [u32],
+    items: &mut [Order],
 ) -> Done
-    requires { Finds replay cells.old items.old (Task.Perform command) }
+    requires { Finds replay cells.old items.old (Task.Perform command values) }
     ensures { Does (commanded (state_of replay cells.old items.old) command values)
         cells.old cells.new items.new result }
 {
@@ -324,34 +258,16 @@ fn carry_out(
         Command::Run => run_out(replay, cells),
         Command::Close => close_phase(replay),
         Command::List => list_table(replay, cells),
-        Command::Unknown => tell(
-            replay.phase,
-            replay.length,
-            replay.items,
-            Told::Replied(Reply::Refused(Refusal::Shut)),
-        ),
     }
 }
 
-fn perform(
-    replay: Replay,
-    task: Task,
-    values: [u32; Line::MOST_NUMBERS],
-    cells: &mut [u64],
-    items: &mut [u32],
-) -> Done
+fn perform(replay: Replay, task: Task, cells: &mut [u64], items: &mut [Order]) -> Done
     requires { Finds replay cells.old items.old task }
-    ensures { Does (performed (state_of replay cells.old items.old) task values)
-        cells.old cells.new items.new result }
+    ensures { Does (performed (state_of replay cells.old items.old) task) cells.old cells.new items.new result }
 {
     match task {
-        Task::Perform(command) => carry_out(replay, command, values, cells, items),
-        Task::Refuse => tell(
-            replay.phase,
-            replay.length,
-            replay.items,
-            Told::Replied(Reply::Refused(Refusal::Shut)),
-        ),
+        Task::Perform(command, values) => carry_out(replay, command, values, cells, items),
+        Task::Refuse => tell(replay, Told::Replied(Err(Refusal::Shut))),
     }
 }
 
@@ -361,7 +277,7 @@ pub fn answer(
     number: u64,
     line: Line,
     cells: &mut [u64],
-    items: &mut [u32],
+    items: &mut [Order],
     out: &mut [u8],
     at: usize,
 ) -> Answered
@@ -370,7 +286,7 @@ pub fn answer(
         cells.new items.new out.new result }
 {
     let from = writing::put_number(out, at, number);
-    let Reading::Todo(task) = dispatching::reading_in(
+    let Some(task) = dispatching::reading_in(
         replay.phase.kind,
         replay.items,
         replay.phase.shut,
@@ -383,24 +299,22 @@ pub fn answer(
             ended: true,
         };
     };
-    let numbers = line.numbers;
-    let values = numbers.values;
-    let done = perform(replay, task, values, cells, items);
-    let next = done.replay;
-    let told = done.told;
-    let finishes = done.finishes;
-    let length = next.length;
+    let Done {
+        replay,
+        told,
+        finishes,
+    } = perform(replay, task, cells, items);
     let behind = printing::put_told(
         out,
         from,
         told,
-        next.phase.crew as usize,
+        replay.phase.crew as usize,
         finishes,
-        &cells[..length],
+        &cells[..replay.length],
     );
     let end = writing::put_bytes(out, behind, b"\n");
     Answered {
-        replay: next,
+        replay,
         at: end,
         ended: false,
     }
@@ -418,20 +332,15 @@ pub fn answer_order(
     number: u64,
     out: &mut [u8],
     at: usize,
-) -> Ordered
+) -> Worked
     requires { (0 < size) × (at + longest_answer ≤ length out.old) }
     ensures { OrderAnswers kind hash size worker key price number out.old at out.new result }
 {
     let from = writing::put_number(out, at, number);
-    let given = calls::one_order(kind, hash, size, worker, key, price);
-    let next = given.worker;
-    let reply = given.reply;
+    let Given { worker, reply } = calls::one_order(kind, hash, size, worker, key, price);
     let behind = printing::put_reply(out, from, reply);
     let end = writing::put_bytes(out, behind, b"\n");
-    Ordered {
-        worker: next,
-        at: end,
-    }
+    Worked { worker, at: end }
 }
 
 // Answers the line `number`, a turn of this worker on the first `places` cells, and prints from `at` on.
@@ -445,19 +354,14 @@ pub fn answer_turn(
     places: usize,
     out: &mut [u8],
     at: usize,
-) -> Stepped
+) -> Worked
     requires { (activity_ok kind size label worker.activity ≡ true)
         × ((size ≡ places) × ((places ≤ length cells.old) × (at + longest_answer ≤ length out.old))) }
     ensures { TurnAnswers kind hash size worker number places cells.old out.old at cells.new out.new result }
 {
     let from = writing::put_number(out, at, number);
-    let moved = calls::one_turn(kind, hash, size, &mut cells[..places], worker);
-    let next = moved.worker;
-    let reply = moved.reply;
+    let Moved { worker, reply } = calls::one_turn(kind, hash, size, &mut cells[..places], worker);
     let behind = printing::put_turn(out, from, reply);
     let end = writing::put_bytes(out, behind, b"\n");
-    Stepped {
-        worker: next,
-        at: end,
-    }
+    Worked { worker, at: end }
 }

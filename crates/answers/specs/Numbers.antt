@@ -1,5 +1,5 @@
 -- The hash function and the answers of the exported functions, as numbers.
-use Rattle.std.specs.Prelude.{◌≡◌, List, [], ◌∷◌, ◌++◌, ℕ, ◌+◌, ◌^◌, ◌≤◌, ◌<◌, length, drop}
+use Rattle.std.specs.Prelude.{◌≡◌, List, [], ◌∷◌, ◌++◌, ℕ, ◌+◌, ◌^◌, ◌≤◌, ◌<◌, length, drop, Ok, Err}
 use Rattle.homes.specs.declared.Hash.{Hash}
 use Rattle.homes.specs.Homes.{plain}
 use Rattle.prices.specs.Contents.{content}
@@ -8,8 +8,7 @@ use Rattle.orders.specs.declared.Order.{Order}
 use Rattle.state.specs.Model.{Model, model_of, gateway}
 use Rattle.state.specs.Open.{open_reply}
 use Rattle.state.specs.Refusals.{number_of}
-use Rattle.state.specs.declared.Counted.TheVariants as counted
-use Rattle.state.specs.declared.Counted.{Counted}
+use Rattle.state.specs.Replies.{Counted}
 use Rattle.state.specs.declared.Device.{Device}
 use Rattle.state.specs.declared.Refusal.{Refusal}
 use Rattle.tables.specs.Calls.{count_call, list_call, list_after}
@@ -25,19 +24,19 @@ use Rattle.numbered.specs.Examples.{Batch, batches}
 
 -- the count, or the number of the refusal
 abbrev pub counted_answer : Counted → ℕ
-counted_answer (counted.Count c) = c
-counted_answer (counted.Refused r) = refusal_answer r
+counted_answer (Ok c) = c
+counted_answer (Err r) = refusal_answer r
 
 -- in each of the documents' models a count is a value, a refusal 2³² and its number
 pub record CountsPromise : Type 0 where
-  pub value : (c : ℕ) → counted_answer (counted.Count c) ≡ c
-  pub refused : (r : Refusal) → counted_answer (counted.Refused r) ≡ 2 ^ 32 + number_of r
-  pub count : (d : Device) (ab : Hash) (t : List ℕ) (c : ℕ) → count_call (model_of d) ab t ≡ counted.Count c → c < 2 ^ 32
-  pub list : (d : Device) (ab : Hash) (t out : List ℕ) (c : ℕ) → list_call (model_of d) ab t out ≡ counted.Count c → c < 2 ^ 32
+  pub value : (c : ℕ) → counted_answer (Ok c) ≡ c
+  pub refused : (r : Refusal) → counted_answer (Err r) ≡ 2 ^ 32 + number_of r
+  pub count : (d : Device) (ab : Hash) (t : List ℕ) (c : ℕ) → count_call (model_of d) ab t ≡ Ok c → c < 2 ^ 32
+  pub list : (d : Device) (ab : Hash) (t out : List ℕ) (c : ℕ) → list_call (model_of d) ab t out ≡ Ok c → c < 2 ^ 32
   pub round : (d : Device) (m : ℕ) (ab : Hash) (t : List ℕ) (rs : List Ack) (answers out : List ℕ) (c : ℕ)
-      → close_round (model_of d) m ab t rs answers out ≡ counted.Count c → c < 2 ^ 32
+      → close_round (model_of d) m ab t rs answers out ≡ Ok c → c < 2 ^ 32
   -- a till list's count is at most the places lent, so it is below 2³² where these are
-  pub till : (d : Device) (text : List ℕ) (m places c : ℕ) → till_call (model_of d) text m places ≡ counted.Count c → c ≤ places
+  pub till : (d : Device) (text : List ℕ) (m places c : ℕ) → till_call (model_of d) text m places ≡ Ok c → c ≤ places
 
 -- a list: the number of its answer, and the lent list afterwards
 pub record ListNumbers (M : Model) (ab : Hash) (t out : List ℕ) (r : ℕ) (out' : List ℕ) : Type 0 where

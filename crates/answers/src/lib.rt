@@ -3,7 +3,6 @@
 
 ghost use Rattle.std.specs.Prelude.{◌≡◌};
 ghost use Rattle.homes.specs.Homes.{hash_of};
-ghost use Rattle.orders.specs.Orders.{orders_of};
 ghost use Rattle.state.specs.Model.{model_of};
 ghost use Rattle.tables.specs.Calls.{check_call, count_call};
 ghost use Rattle.numbered.specs.Numbers.{reply_answer};
@@ -13,17 +12,18 @@ ghost use Rattle.migration.specs.Lists.{MoveNumbers, MovePromised};
 ghost use Rattle.answers.specs.Numbers.{counted_answer, ListNumbers, TillNumbers, RunNumbers, OpenNumbers, CloseNumbers};
 
 use homes::Hash;
-use singly::{refusal_answer, reply_answer};
-use state::{Counted, Device, Replied};
+use lent::Lines;
+use singly::{Calls, refusal_answer, reply_answer};
+use state::{Device, Refusal, Replied};
 
 // ---- answers
 // The count, or the number of the refusal.
-pub fn counted_answer(counted: Counted) -> u64
+pub fn counted_answer(counted: Result<usize, Refusal>) -> u64
     ensures { result ≡ counted_answer counted }
 {
     match counted {
-        Counted::Count(count) => count as u64,
-        Counted::Refused(why) => refusal_answer(why),
+        Ok(count) => count as u64,
+        Err(why) => refusal_answer(why),
     }
 }
 
@@ -77,110 +77,43 @@ pub fn read_till(
 }
 
 // Opens a phase, an insert phase with a list of orders, and if the opening is accepted, applies calls, each lent that list: 0, or the number of the
-// opening's refusal.
-pub fn run_calls(
+// opening's refusal. If SINGLY, each call goes by value with the phase tested at each, as single calls do.
+pub fn run_calls<const SINGLY: bool, L: Lines>(
     device: Device,
     kind: u64,
     count: u64,
     a: u32,
     b: u32,
     cells: &mut [u64],
-    order_keys: &[u32],
-    order_prices: &[u32],
-    order_workers: &[u32],
-    ops: &[u32],
-    lines: &[u32],
-    workers: &[u32],
-    keys: &[u32],
+    list: L,
+    calls: Calls,
     answers: &mut [u64],
 ) -> u64
-    ensures is_run { RunNumbers (model_of device) kind count (hash_of a b) cells.old
-        (orders_of order_keys.now order_prices.now order_workers.now)
-        ops.now lines.now workers.now keys.now answers.old
+    ensures is_run { RunNumbers (model_of device) kind count (hash_of a b) cells.old (L.orders list)
+        calls.entry.ops.now calls.entry.lines.now calls.entry.workers.now calls.entry.keys.now answers.old
         result cells.new answers.new }
-    ensures promise { Promised (model_of device) kind count (hash_of a b) cells.old
-        (orders_of order_keys.now order_prices.now order_workers.now)
-        ops.now lines.now workers.now keys.now answers.old }
+    ensures promise { Promised (model_of device) kind count (hash_of a b) cells.old (L.orders list)
+        calls.entry.ops.now calls.entry.lines.now calls.entry.workers.now calls.entry.keys.now answers.old }
 {
-    let ran = batch::run_calls(
-        device,
-        kind,
-        count,
-        Hash { a, b },
-        cells,
-        order_keys,
-        order_prices,
-        order_workers,
-        ops,
-        lines,
-        workers,
-        keys,
-        answers,
-    );
-    let reply = ran.reply;
-    reply_answer(reply)
-}
-
-// The same, each call by value with the phase tested at each, as single calls are.
-pub fn run_calls_singly(
-    device: Device,
-    kind: u64,
-    count: u64,
-    a: u32,
-    b: u32,
-    cells: &mut [u64],
-    order_keys: &[u32],
-    order_prices: &[u32],
-    order_workers: &[u32],
-    ops: &[u32],
-    lines: &[u32],
-    workers: &[u32],
-    keys: &[u32],
-    answers: &mut [u64],
-) -> u64
-    ensures is_run { RunNumbers (model_of device) kind count (hash_of a b) cells.old
-        (orders_of order_keys.now order_prices.now order_workers.now)
-        ops.now lines.now workers.now keys.now answers.old
-        result cells.new answers.new }
-    ensures promise { Promised (model_of device) kind count (hash_of a b) cells.old
-        (orders_of order_keys.now order_prices.now order_workers.now)
-        ops.now lines.now workers.now keys.now answers.old }
-{
-    let ran = batch::run_calls_singly(
-        device,
-        kind,
-        count,
-        Hash { a, b },
-        cells,
-        order_keys,
-        order_prices,
-        order_workers,
-        ops,
-        lines,
-        workers,
-        keys,
-        answers,
-    );
-    let reply = ran.reply;
-    reply_answer(reply)
+    let hash = Hash { a, b };
+    let ran = batch::run_calls::<SINGLY, L>(device, kind, count, hash, cells, list, calls, answers);
+    reply_answer(ran.reply)
 }
 
 // ---- reply rounds
 // Opens a round with the list sent: 0, or the number of the refusal.
-pub fn open_round(
+pub fn open_round<L: Lines>(
     device: Device,
     count: u64,
     a: u32,
     b: u32,
     cells: &mut [u64],
-    keys: &[u32],
-    prices: &[u32],
-    workers: &[u32],
+    list: L,
 ) -> u64
-    ensures { OpenNumbers (model_of device) count (hash_of a b) cells.old (orders_of keys.now prices.now workers.now)
+    ensures { OpenNumbers (model_of device) count (hash_of a b) cells.old (L.orders list)
         result cells.new }
 {
-    let opened = polling::open_round(device, count, Hash { a, b }, cells, keys, prices, workers);
+    let opened = polling::open_round(device, count, Hash { a, b }, cells, list);
     reply_answer(opened)
 }
 

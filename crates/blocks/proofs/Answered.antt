@@ -23,7 +23,7 @@ behind-put out at bytes h =
     let n : length (take at out ++ bytes) ≡ at + length bytes = rw (length-append, length-take-le at out (omega arith)) in
     ap (take (at + length bytes)) (sets-eq bytes out at h) ∙ take_at (take at out ++ bytes) (drop (at + length bytes) out) (at + length bytes) n
 
-module _ {s : State} {n : ℕ} {l : Line} {cells out : List ℕ} {at : ℕ} {cells' items' out' : List ℕ} {d : Answered}
+module _ {s : State} {n : ℕ} {l : Line} {cells out : List ℕ} {at : ℕ} {cells' : List ℕ} {items' : List Order} {out' : List ℕ} {d : Answered}
     (h : Answers s n l cells out at cells' items' out' d) where
   abbrev a : Answer
   a = answer_of s l
@@ -56,11 +56,11 @@ module _ {s : State} {n : ℕ} {l : Line} {cells out : List ℕ} {at : ℕ} {cel
     room-behind = let e : length out' ≡ length out = ap length h.output ∙ length-sets out at (rendered n a) in omega (arith, h.short)
 
 -- ---- a last line that no newline ends
-module _ (c : Carried) (line cells items out : List ℕ) (fit : Fit c line cells items 1) where
+module _ (c : Carried) (line cells : List ℕ) (items : List Order) (out : List ℕ) (fit : Fit c line cells items 1) where
   pub no_last : c.len ≡ 0 → [] ≡ last_output (kept_of c line cells items)
   no_last e = sym (last_none (kept_of c line cells items) fit.goes (ap (λ x. take x line) e))
 
-  pub a-last : (c.len ≡ 0 → ⊥) → longest_answer ≤ length out → {l : Line} → l ≡ reading_of (take c.len line) → {cells' items' out' : List ℕ} {d : Answered}
+  pub a-last : (c.len ≡ 0 → ⊥) → longest_answer ≤ length out → {l : Line} → l ≡ reading_of (take c.len line) → {cells' : List ℕ} {items' : List Order} {out' : List ℕ} {d : Answered}
       → Answers (state_of c.replay cells items) (c.number + 1) l cells out 0 cells' items' out' d
       → (take d.at out' ≡ last_output (kept_of c line cells items)) × (d.at ≤ length out')
   a-last some room read h =

@@ -9,7 +9,7 @@ use borrow.Author.Tests.{eqb-true, eqb-false}
 use lib.Dec.{eqb}
 use lib.ListN.{length, take, drop, length-drop, length-take}
 use lib.Seq.{take-add, take_all}
-use Rattle.state.specs.declared.Phase.{Phase}
+use Rattle.orders.specs.declared.Order.{Order}
 use Rattle.text.specs.Bytes.{byte_at}
 use Rattle.lines.specs.Grammar.{reading_of, kept_bytes}
 use Rattle.lines.specs.declared.Line.{Line}
@@ -28,11 +28,6 @@ use Rattle.blocks.specs.Kept.{kept_of, Held, Fit, Fills}
 use Rattle.gathering.specs.Gathers.{Gathers}
 use Rattle.blocks.proofs.Answered.{state-behind, ended-behind, output-behind, room-behind}
 
--- what a loop over the lines carries on
-abbrev pub carry : Phase → (size count number len : ℕ) → Carried
-carry phase size count number len =
-    record { replay = record { phase = phase; length = size; items = count }; number = number; len = len; ended = false }
-
 -- the rest of a block, as the code cuts it
 abbrev pub rest : List ℕ → ℕ → List ℕ
 rest block from = take (length block - from) (drop from block)
@@ -43,7 +38,7 @@ rest-is block from =
     take_all (length block - from) (drop from block) (omega arith)
 
 -- ---- behind the first bytes of a block, up to `from`
-pub record Behind (k₀ : Kept) (block line cells items : List ℕ) (c : Carried) (from : ℕ) : Type 0 where
+pub record Behind (k₀ : Kept) (block line cells : List ℕ) (items : List Order) (c : Carried) (from : ℕ) : Type 0 where
   pub kept : kept_of c line cells items ≡ fed k₀ (take from block)
   pub held : Held c cells items
   pub goes : c.ended ≡ false
@@ -52,7 +47,7 @@ pub record Behind (k₀ : Kept) (block line cells items : List ℕ) (c : Carried
   pub countable : k₀.number + length block < 2 ^ 64
   pub within : from ≤ length block
 
-pub behind-none : {c : Carried} {block line cells items : List ℕ} → Fit c line cells items (length block)
+pub behind-none : {c : Carried} {block line cells : List ℕ} {items : List Order} → Fit c line cells items (length block)
     → Behind (kept_of c line cells items) block line cells items c 0
 behind-none fit =
     record {
@@ -65,7 +60,7 @@ behind-none fit =
       within = omega arith;
     }
 
-module _ {k₀ : Kept} {block line cells items : List ℕ} {c : Carried} {from : ℕ} (b : Behind k₀ block line cells items c from) where
+module _ {k₀ : Kept} {block line cells : List ℕ} {items : List Order} {c : Carried} {from : ℕ} (b : Behind k₀ block line cells items c from) where
   abbrev k : Kept
   k = kept_of c line cells items
 
@@ -92,34 +87,34 @@ module _ {k₀ : Kept} {block line cells items : List ℕ} {c : Carried} {from :
   end-within is = omega (arith, byte_le 10 (rest block from), rest-long, b.within)
 
 -- ---- the lent lists keep their lengths
-pub record Same (line₀ cells₀ items₀ out₀ line cells items out : List ℕ) : Type 0 where
+pub record Same (line₀ cells₀ : List ℕ) (items₀ : List Order) (out₀ line cells : List ℕ) (items : List Order) (out : List ℕ) : Type 0 where
   pub same_line : length line ≡ length line₀
   pub same-cells : length cells ≡ length cells₀
   pub same-items : length items ≡ length items₀
   pub same_out : length out ≡ length out₀
 
-pub same_none : {line cells items out : List ℕ} → Same line cells items out line cells items out
+pub same_none : {line cells : List ℕ} {items : List Order} {out : List ℕ} → Same line cells items out line cells items out
 same_none = record { same_line = refl; same-cells = refl; same-items = refl; same_out = refl }
 
-pub same-on : {line₀ cells₀ items₀ out₀ line cells items out line' cells' items' out' : List ℕ} → Same line₀ cells₀ items₀ out₀ line cells items out
+pub same-on : {line₀ cells₀ : List ℕ} {items₀ : List Order} {out₀ line cells : List ℕ} {items : List Order} {out line' cells' : List ℕ} {items' : List Order} {out' : List ℕ} → Same line₀ cells₀ items₀ out₀ line cells items out
     → length line' ≡ length line → length cells' ≡ length cells → length items' ≡ length items → length out' ≡ length out
     → Same line₀ cells₀ items₀ out₀ line' cells' items' out'
 same-on s l c i o = record { same_line = l ∙ s.same_line; same-cells = c ∙ s.same-cells; same-items = i ∙ s.same-items; same_out = o ∙ s.same_out }
 
 -- ---- lines in a buffer
 -- what the first bytes print stands in the buffer, and nothing does before the first byte
-pub record Filling (k₀ : Kept) (block line cells items out : List ℕ) (c : Carried) (from at : ℕ) : Type 0 where
+pub record Filling (k₀ : Kept) (block line cells : List ℕ) (items : List Order) (out : List ℕ) (c : Carried) (from at : ℕ) : Type 0 where
   pub behind : Behind k₀ block line cells items c from
   pub output : take at out ≡ printed k₀ (take from block)
   pub room : at ≤ length out
   pub buffer : longest_answer ≤ length out
   pub begun : from ≡ 0 → at ≡ 0
 
-pub filling-none : {c : Carried} {block line cells items out : List ℕ} → Fit c line cells items (length block) → longest_answer ≤ length out
+pub filling-none : {c : Carried} {block line cells : List ℕ} {items : List Order} {out : List ℕ} → Fit c line cells items (length block) → longest_answer ≤ length out
     → Filling (kept_of c line cells items) block line cells items out c 0 0
 filling-none fit room = record { behind = behind-none fit; output = unfold printed in refl; room = omega arith; buffer = room; begun = λ _. refl }
 
-module _ {k₀ : Kept} {block line cells items out : List ℕ} {c : Carried} {from at : ℕ} (h : Filling k₀ block line cells items out c from at) where
+module _ {k₀ : Kept} {block line cells : List ℕ} {items : List Order} {out : List ℕ} {c : Carried} {from at : ℕ} (h : Filling k₀ block line cells items out c from at) where
   abbrev kept-now : Kept
   kept-now = kept_of c line cells items
 
@@ -144,14 +139,14 @@ module _ {k₀ : Kept} {block line cells items out : List ℕ} {c : Carried} {fr
     -- no newline is left in the block
     pub filled-part : length block ≤ from + e → {line' : List ℕ} {n : ℕ} → Gathers (take c.len line ++ rest block from) line' n
         → Fills k₀ block line' cells items out
-        (record { carried = record { replay = c.replay; number = c.number; len = n; ended = false }; next = from + e; at = at })
+        (record { carried = record { replay = c.replay; number = c.number; len = n; ended = c.ended }; next = from + e; at = at })
     filled-part l {line'} {n} g =
         let b = h.behind in
         let all : e ≡ length block - from = omega (arith, end-within b is) in
         let plain : Plain (rest block from) = omega (arith, rest-long b) in
         let whole : take (from + (length block - from)) block ≡ take (from + e) block = ap (λ x. take (from + x) block) (sym all) in
         record {
-          kept = same_line (sym b.goes) g.first ∙ sym (fed-plain (rest block from) kept-now b.goes few-gathered plain)
+          kept = ap (λ (x : List ℕ). record { state = kept-now.state; number = c.number; line = x; ended = c.ended }) g.first ∙ sym (fed-plain (rest block from) kept-now b.goes few-gathered plain)
               ∙ fed-on b (length block - from) ∙ ap (fed k₀) whole;
           output = h.output
               ∙ sym (append-nil (printed k₀ (take from block)))
@@ -163,16 +158,11 @@ module _ {k₀ : Kept} {block line cells items out : List ℕ} {c : Carried} {fr
           within = omega arith;
           room = h.room;
         }
-      where
-        same_line : {x y : Bool} {p q : List ℕ} → x ≡ y → p ≡ q
-            → ◌≡◌ {A = Kept} (record { state = kept-now.state; number = c.number; line = p; ended = x })
-            (record { state = kept-now.state; number = c.number; line = q; ended = y })
-        same_line s t = rw (s, t)
 
     -- a line that ends in the block is answered
     module _ (found : from + e < length block) (room : at + longest_answer ≤ length out) {l : Line}
         (read : l ≡ reading_of (take c.len line ++ take (from + e - from) (drop from block)))
-        {cells' items' out' : List ℕ} {d : Answered}
+        {cells' : List ℕ} {items' : List Order} {out' : List ℕ} {d : Answered}
         (a : Answers (state_of c.replay cells items) (c.number + 1) l cells out at cells' items' out' d) (line' : List ℕ) where
       abbrev b : Behind k₀ block line cells items c from
       b = h.behind
@@ -219,14 +209,14 @@ module _ {k₀ : Kept} {block line cells items out : List ℕ} {c : Carried} {fr
           ∙ printed-on b _ ∙ ap (λ x. printed k₀ (take x block)) next
 
       pub next_line : length line' ≡ length line → length out' ≡ length out → d.ended ≡ false
-          → Filling k₀ block line' cells' items' out' (record { replay = d.replay; number = c.number + 1; len = 0; ended = false }) (from + e + 1) d.at
+          → Filling k₀ block line' cells' items' out' (record { replay = d.replay; number = c.number + 1; len = 0; ended = c.ended }) (from + e + 1) d.at
       next_line ll lo goes =
           record {
             behind = record {
-              kept = ap (λ (x : Bool). kept_of (record { replay = d.replay; number = c.number + 1; len = 0; ended = x }) line' cells' items') (sym goes)
+              kept = ap (λ (x : Bool). kept_of (record { replay = d.replay; number = c.number + 1; len = 0; ended = x }) line' cells' items') (b.goes ∙ sym goes)
                   ∙ kept_next;
               held = record { ready = a.ready; gathered = omega arith };
-              goes = refl;
+              goes = b.goes;
               line_long = omega (arith, b.line_long);
               few = omega (arith, b.few);
               countable = b.countable;

@@ -8,6 +8,7 @@ ghost use Rattle.blocks.specs.Kept.{kept_of, Begins, Fit, Fills};
 
 use answering::Replay;
 use fitting::Aim;
+use orders::Order;
 
 // What is kept from block to block, beside the lent cells, the items and the bytes of a line that is not whole yet: how many those are, how many lines
 // there were, and whether the replay has ended.
@@ -31,9 +32,8 @@ pub struct Filled {
 pub fn start() -> Carried
     ensures { Begins result }
 {
-    let replay = answering::start();
     Carried {
-        replay,
+        replay: answering::start(),
         number: 0,
         len: 0,
         ended: false,
@@ -43,146 +43,106 @@ pub fn start() -> Carried
 // Answers lines of a block until it is done, the replay ends, or the buffer has no room for the longest answer. A line is read where it lies; only
 // one that the block does not end is gathered. The phase stays in place: a line to one worker moves that worker alone.
 pub fn fill(
-    carried: Carried,
+    mut carried: Carried,
     block: &[u8],
     line: &mut [u8],
     cells: &mut [u64],
-    items: &mut [u32],
+    items: &mut [Order],
     out: &mut [u8],
 ) -> Filled
     requires { Fit carried line.old cells.old items.old (length block.now) × ((0 < length block.now) × (longest_answer ≤ length out.old)) }
     ensures { Fills (kept_of carried line.old cells.old items.old) block.now
         line.new cells.new items.new out.new result }
 {
-    let start = carried.replay;
-    let mut phase = start.phase;
-    let mut size = start.length;
-    let mut count = start.items;
-    let mut number = carried.number;
-    let mut len = carried.len;
     let mut at: usize = 0;
     let mut from: usize = 0;
     while from < block.len() {
         if out.len() - at < Replay::LONGEST_ANSWER {
             return Filled {
-                carried: Carried {
-                    replay: Replay {
-                        phase,
-                        length: size,
-                        items: count,
-                    },
-                    number,
-                    len,
-                    ended: false,
-                },
+                carried,
                 next: from,
                 at,
             };
         }
         let end = from + scanning::byte_at(&block[from..], b'\n');
         if block.len() <= end {
-            let n = gathering::gather(&block[from..], line, len);
+            carried.len = gathering::gather(&block[from..], line, carried.len);
             return Filled {
-                carried: Carried {
-                    replay: Replay {
-                        phase,
-                        length: size,
-                        items: count,
-                    },
-                    number,
-                    len: n,
-                    ended: false,
-                },
+                carried,
                 next: end,
                 at,
             };
         }
-        number += 1;
-        let read = gathering::read_end(&block[from..end], line, len);
-        len = 0;
+        carried.number += 1;
+        let read = gathering::read_end(&block[from..end], line, carried.len);
+        carried.len = 0;
         from = end + 1;
-        let aim = dispatching::aim_of(phase.kind, phase.shut, read, phase.crew, items, count);
+        let aim = dispatching::aim_of(
+            carried.replay.phase.kind,
+            carried.replay.phase.shut,
+            read,
+            carried.replay.phase.crew,
+            items,
+            carried.replay.items,
+        );
         match aim {
-            Aim::Order(worker, key, price) => {
-                let w = worker as usize;
-                let ordered = answering::answer_order(
-                    phase.kind,
-                    phase.hash,
-                    phase.length,
-                    phase.workers[w],
-                    key,
-                    price,
-                    number,
+            Some(Aim::Order(order)) => {
+                let w = order.worker as usize;
+                let worked = answering::answer_order(
+                    carried.replay.phase.kind,
+                    carried.replay.phase.hash,
+                    carried.replay.phase.length,
+                    carried.replay.phase.workers[w],
+                    order.key,
+                    order.price,
+                    carried.number,
                     out,
                     at,
                 );
-                let next = ordered.worker;
-                phase.workers[w] = next;
-                at = ordered.at;
+                carried.replay.phase.workers[w] = worked.worker;
+                at = worked.at;
             }
-            Aim::Turn(worker) => {
+            Some(Aim::Turn(worker)) => {
                 let w = worker as usize;
-                let stepped = answering::answer_turn(
-                    phase.kind,
-                    phase.hash,
-                    phase.length,
-                    phase.workers[w],
-                    number,
+                let worked = answering::answer_turn(
+                    carried.replay.phase.kind,
+                    carried.replay.phase.hash,
+                    carried.replay.phase.length,
+                    carried.replay.phase.workers[w],
+                    carried.number,
                     cells,
-                    size,
+                    carried.replay.length,
                     out,
                     at,
                 );
-                let next = stepped.worker;
-                phase.workers[w] = next;
-                at = stepped.at;
+                carried.replay.phase.workers[w] = worked.worker;
+                at = worked.at;
             }
-            Aim::Other => {
+            None => {
                 let answered = answering::answer(
-                    Replay {
-                        phase,
-                        length: size,
-                        items: count,
-                    },
-                    number,
+                    carried.replay,
+                    carried.number,
                     read,
                     cells,
                     items,
                     out,
                     at,
                 );
-                let next = answered.replay;
+                carried.replay = answered.replay;
+                at = answered.at;
                 if answered.ended {
+                    carried.ended = true;
                     return Filled {
-                        carried: Carried {
-                            replay: next,
-                            number,
-                            len: 0,
-                            ended: true,
-                        },
+                        carried,
                         next: from,
-                        at: answered.at,
+                        at,
                     };
                 }
-                let moved = next.phase;
-                phase = moved;
-                size = next.length;
-                count = next.items;
-                at = answered.at;
             }
         }
     }
     Filled {
-        carried: Carried {
-            replay: Replay {
-                phase,
-                length: size,
-                items: count,
-            },
-            number,
-            len,
-            ended: false,
-        },
+        carried,
         next: from,
         at,
     }
@@ -193,7 +153,7 @@ pub fn last_line(
     carried: Carried,
     line: &[u8],
     cells: &mut [u64],
-    items: &mut [u32],
+    items: &mut [Order],
     out: &mut [u8],
 ) -> usize
     requires { Fit carried line.now cells.old items.old 1 × (longest_answer ≤ length out.old) }

@@ -1,4 +1,5 @@
 -- A find's step is the rule of kind 3, and no such step changes what a cell holds.
+use Rattle.std.specs.Prelude.{Ok}
 use mathlib.Core.Path.{◌≡◌, refl, sym, ◌∙◌, ap}
 use mathlib.Core.Bool.{Bool, true, false, cond}
 use mathlib.Core.List.{List}
@@ -17,7 +18,6 @@ use Rattle.rule.specs.declared.Outcome.{Outcome}
 use Rattle.state.specs.Model.{Model}
 use Rattle.protocol.specs.Split.{one_turn, one_cells}
 use Rattle.protocol.specs.declared.Moved.{Moved}
-use Rattle.protocol.specs.declared.TurnReply.TheVariants as turnReply
 use Rattle.protocol.proofs.Turning.{one-made}
 
 by-rule : (home : ℕ → ℕ) (n x v c : ℕ) (a : Activity) (o : Outcome) → a ≡ Reading v c → o ≡ find_step n label home (Reading v c) x
@@ -41,7 +41,7 @@ unwritten t c x u e h = sym (set-get_or t c 0) ∙ ap (set t c) (sym e) ∙ h
 -- the step of a reading worker is its turn
 pub found-one : (M : Model) (ab : Hash) (n : ℕ) (t : List ℕ) (w : Worker) (v c : ℕ) (o : Outcome) → w.activity ≡ Reading v c
     → o ≡ find_step n label (M.home ab n) (Reading v c) (get_or t c 0)
-    → (◌≡◌ {A = Moved} (record { worker = record { activity = o.activity }; reply = turnReply.Answered o.answer }) (one_turn M 3 ab n t w))
+    → (◌≡◌ {A = Moved} (record { worker = record { activity = o.activity }; reply = Ok o.answer }) (one_turn M 3 ab n t w))
     × (t ≡ one_cells M 3 ab n t w)
 found-one M ab n t w v c o reads e =
     let made = one-made M 3 ab n t w c o (ap touched reads) (by-rule (M.home ab n) n (get_or t c 0) v c w.activity o reads e) in

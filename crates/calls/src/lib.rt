@@ -1,5 +1,5 @@
-// The calls on a phase: order, turn and close, by value. Each is told the model by whose limits the phase is tested; what reads no limit is the same in every
-// model.
+// The calls on a phase: order, turn and close, in place and by value. Those by value are told the model by whose limits the phase is tested; what reads no
+// limit is the same in every model.
 #![tactic(auto, using(std::proofs::lemmas::Bool::Decides::nat_tests))]
 
 ghost use Rattle.std.specs.Prelude.{◌≡◌, true, ◌<◌, length};
@@ -9,81 +9,48 @@ ghost use Rattle.state.specs.Model.{gateway, model_of};
 ghost use Rattle.state.specs.Refusals.{first_of};
 ghost use Rattle.protocol.specs.Bars.{adds_test, mispriced, worker_bars};
 ghost use Rattle.protocol.specs.Calls.{entry_for, close_call, order_found, order_call, turn_call, turn_table};
+ghost use Rattle.protocol.specs.IsWellFormed.{is_well_formed};
 ghost use Rattle.protocol.specs.Split.{one_order, one_turn, one_cells};
 ghost use Rattle.calls.specs.Asking.{asked_for};
 
 use activities::{Activity, Worker};
-use formed::{all_idle, is_idle, is_well_formed, numbers_ok, worker_ok};
+use formed::{all_idle, is_idle, is_well_formed};
 use homes::Hash;
-use lent::line_at;
-use orders::{FIRST_TEST, Found, Order};
+use lent::Lines;
+use orders::{FIRST_TEST, Order};
 use prices::{HIGHEST, PRICES};
 use probing::{find_step, touched};
-use protocol::{Given, Moved, TurnReply, Turned};
-use rule::{Answer, Place};
-use state::{Device, Phase, Refusal, Replied, Reply};
+use protocol::{Given, Moved, Turned};
+use rule::Answer;
+use state::{Device, Phase, Refusal, Replied};
 use steps::step;
 
-// ---- close
-// The phase as it is, with a refusal.
-fn refused(phase: Phase, why: Refusal) -> Replied
-    ensures { result ≡ record { phase = phase; reply = Reply.Refused why } }
-{
-    Replied {
-        phase,
-        reply: Reply::Refused(why),
-    }
-}
-
-pub fn close(device: Device, mut phase: Phase) -> Replied
-    ensures { result ≡ close_call (model_of device) phase }
-{
-    let workers = phase.workers;
-    if !is_well_formed(device, phase) {
-        return refused(phase, Refusal::Spoilt);
-    }
-    if phase.shut {
-        return refused(phase, Refusal::Shut);
-    }
-    if !all_idle(workers) {
-        return refused(phase, Refusal::Working);
-    }
-    phase.shut = true;
-    Replied {
-        phase,
-        reply: Reply::Accepted,
-    }
-}
-
 // ---- order
-// What an order call asks for: of which worker, for which key at which price, or that the list lacks the line.
+// What an order call asks for: of which worker, for which key at which price.
 #[derive(Clone, Copy)]
 pub struct Asked {
-    pub lacks: bool,
     pub worker: usize,
     pub key: u32,
     pub price: u32,
 }
 
-// An insert phase reads the line that was found, the others the worker and the key handed in.
-pub fn asked_for(kind: u32, found: Found, worker: usize, key: u32) -> Asked
+// An insert phase reads the line that was found, if there is one, the others the worker and the key handed in.
+pub fn asked_for(kind: u32, found: Option<Order>, worker: usize, key: u32) -> Option<Asked>
     ensures { result ≡ asked_for kind found worker key }
 {
     if kind == 1 {
-        let order = found.order;
-        Asked {
-            lacks: !found.there,
+        let order = found?;
+        Some(Asked {
             worker: order.worker as usize,
             key: order.key,
             price: order.price,
-        }
+        })
     } else {
-        Asked {
-            lacks: false,
+        Some(Asked {
             worker,
             key,
             price: 0,
-        }
+        })
     }
 }
 
@@ -124,22 +91,22 @@ fn entry_for(kind: u32, key: u32, price: u32) -> u64
 }
 
 // The answer of an order to a worker with this activity.
-fn one_reply(kind: u32, activity: Activity, key: u32, price: u32) -> Reply
+fn one_reply(kind: u32, activity: Activity, key: u32, price: u32) -> Result<(), Refusal>
     ensures { result ≡ first_of (worker_bars kind activity key price) }
 {
     if !is_idle(activity) {
-        return Reply::Refused(Refusal::Busy);
+        return Err(Refusal::Busy);
     }
     if key == 0 {
-        return Reply::Refused(Refusal::Blank);
+        return Err(Refusal::Blank);
     }
     if adds_test(kind, key) {
-        return Reply::Refused(Refusal::TestNumber);
+        return Err(Refusal::TestNumber);
     }
     if is_mispriced(kind, price) {
-        return Reply::Refused(Refusal::WrongPrice);
+        return Err(Refusal::WrongPrice);
     }
-    Reply::Accepted
+    Ok(())
 }
 
 // An order to one worker by itself. The rest of its phase is not tested. All refusals share one way out, so that the worker is copied once.
@@ -150,85 +117,21 @@ pub fn one_order(kind: u32, hash: Hash, length: u32, worker: Worker, key: u32, p
     let activity = worker.activity;
     let reply = one_reply(kind, activity, key, price);
     match reply {
-        Reply::Accepted => {
+        Ok(()) => {
             let cell = homes::home(hash, length, key);
             let entry = entry_for(kind, key, price);
             Given {
                 worker: Worker {
                     activity: Activity::Reading { entry, cell },
                 },
-                reply: Reply::Accepted,
+                reply: Ok(()),
             }
         }
-        Reply::Refused(why) => Given {
+        Err(why) => Given {
             worker,
-            reply: Reply::Refused(why),
+            reply: Err(why),
         },
     }
-}
-
-// An order by a line that was found in the list lent, or by a worker and a key handed in. The workers are tested in its own body: the phase is not
-// copied for it.
-#[tactic(auto, using(crate::proofs::Walking::order_rules))]
-pub fn order_found(
-    device: Device,
-    mut phase: Phase,
-    found: Found,
-    worker: usize,
-    key: u32,
-) -> Replied
-    ensures { result ≡ order_found (model_of device) phase found worker key }
-{
-    if !numbers_ok(device, phase.kind, phase.length, phase.crew) {
-        return refused(phase, Refusal::Spoilt);
-    }
-    let mut i: usize = 0;
-    while i < Phase::ROOM {
-        let w = phase.workers[i];
-        let activity = w.activity;
-        if !worker_ok(phase.kind, phase.length, i < phase.crew as usize, activity) {
-            return refused(phase, Refusal::Spoilt);
-        }
-        i += 1;
-    }
-    if phase.shut {
-        return refused(phase, Refusal::Shut);
-    }
-    let asked = asked_for(phase.kind, found, worker, key);
-    if asked.lacks {
-        return refused(phase, Refusal::NoLine);
-    }
-    let chosen = asked.worker;
-    if phase.crew as usize <= chosen {
-        return refused(phase, Refusal::NoWorker);
-    }
-    let given = one_order(
-        phase.kind,
-        phase.hash,
-        phase.length,
-        phase.workers[chosen],
-        asked.key,
-        asked.price,
-    );
-    let next = given.worker;
-    let reply = given.reply;
-    phase.workers[chosen] = next;
-    Replied { phase, reply }
-}
-
-// The order call: in an insert phase by line `line` of the list, in the others for the worker and the key that are handed in.
-pub fn order(
-    device: Device,
-    phase: Phase,
-    orders: &[Order],
-    line: usize,
-    worker: usize,
-    key: u32,
-) -> Replied
-    ensures { result ≡ order_call (model_of device) phase orders.now line worker key }
-{
-    let found = line_at(orders, line);
-    order_found(device, phase, found, worker, key)
 }
 
 // ---- turn
@@ -239,10 +142,10 @@ pub fn one_turn(kind: u32, hash: Hash, size: u32, cells: &mut [u64], worker: Wor
         × (cells.new ≡ one_cells gateway kind hash size cells.old worker) }
 {
     let activity = worker.activity;
-    let Place::At(cell) = touched(activity) else {
+    let Some(cell) = touched(activity) else {
         return Moved {
             worker,
-            reply: TurnReply::Answered(Answer::Idle),
+            reply: Ok(Answer::Idle),
         };
     };
     let outcome = step(kind, hash, size, activity, cells[cell as usize]);
@@ -251,7 +154,7 @@ pub fn one_turn(kind: u32, hash: Hash, size: u32, cells: &mut [u64], worker: Wor
     let answer = outcome.answer;
     Moved {
         worker: Worker { activity: next },
-        reply: TurnReply::Answered(answer),
+        reply: Ok(answer),
     }
 }
 
@@ -265,7 +168,7 @@ pub fn one_find(size: u32, cells: &[u64], worker: Worker) -> Moved
     let Activity::Reading { cell, .. } = activity else {
         return Moved {
             worker,
-            reply: TurnReply::Answered(Answer::Idle),
+            reply: Ok(Answer::Idle),
         };
     };
     let found = find_step(size, activity, cells[cell as usize]);
@@ -273,45 +176,61 @@ pub fn one_find(size: u32, cells: &[u64], worker: Worker) -> Moved
     let answer = found.answer;
     Moved {
         worker: Worker { activity: next },
-        reply: TurnReply::Answered(answer),
+        reply: Ok(answer),
     }
 }
 
-// The phase as it is, with a refusal.
-fn turn_refused(phase: Phase, why: Refusal) -> Turned
-    ensures { result ≡ record { phase = phase; reply = TurnReply.Refused why } }
-{
-    Turned {
-        phase,
-        reply: TurnReply::Refused(why),
-    }
-}
+// ---- calls on a phase that stays in place
+// It is tested before: to every model to which it is well formed, these are that model's calls.
 
-// A turn of one worker of the phase. The workers are tested in its own body: the phase is not copied for it.
-#[tactic(auto, using(crate::proofs::Walking::turn_rules))]
-pub fn turn(device: Device, mut phase: Phase, cells: &mut [u64], worker: usize) -> Turned
-    ensures { (result ≡ turn_call (model_of device) phase cells.old worker) × (cells.new ≡ turn_table (model_of device) phase cells.old worker) }
+// An order by a line that was found in the list lent, or by a worker and a key handed in.
+pub fn order_in_place(
+    phase: &mut Phase,
+    found: Option<Order>,
+    worker: usize,
+    key: u32,
+) -> Result<(), Refusal>
+    requires { (d : Device) × (is_well_formed (model_of d) phase.old ≡ true) }
+    ensures { (d : Device) → is_well_formed (model_of d) phase.old ≡ true
+        → record { phase = phase.new; reply = result } ≡ order_found (model_of d) phase.old found worker key }
 {
-    if !numbers_ok(device, phase.kind, phase.length, phase.crew) {
-        return turn_refused(phase, Refusal::Spoilt);
-    }
-    let mut i: usize = 0;
-    while i < Phase::ROOM {
-        let w = phase.workers[i];
-        let activity = w.activity;
-        if !worker_ok(phase.kind, phase.length, i < phase.crew as usize, activity) {
-            return turn_refused(phase, Refusal::Spoilt);
-        }
-        i += 1;
-    }
     if phase.shut {
-        return turn_refused(phase, Refusal::Shut);
+        return Err(Refusal::Shut);
+    }
+    let Some(asked) = asked_for(phase.kind, found, worker, key) else {
+        return Err(Refusal::NoLine);
+    };
+    let chosen = asked.worker;
+    if phase.crew as usize <= chosen {
+        return Err(Refusal::NoWorker);
+    }
+    let given = one_order(
+        phase.kind,
+        phase.hash,
+        phase.length,
+        phase.workers[chosen],
+        asked.key,
+        asked.price,
+    );
+    phase.workers[chosen] = given.worker;
+    given.reply
+}
+
+// A turn of one worker.
+pub fn turn_in_place(phase: &mut Phase, cells: &mut [u64], worker: usize) -> Result<Answer, Refusal>
+    requires { (d : Device) × (is_well_formed (model_of d) phase.old ≡ true) }
+    ensures { (d : Device) → is_well_formed (model_of d) phase.old ≡ true
+        → (record { phase = phase.new; reply = result } ≡ turn_call (model_of d) phase.old cells.old worker)
+        × (cells.new ≡ turn_table (model_of d) phase.old cells.old worker) }
+{
+    if phase.shut {
+        return Err(Refusal::Shut);
     }
     if phase.length as usize != cells.len() {
-        return turn_refused(phase, Refusal::OtherTable);
+        return Err(Refusal::OtherTable);
     }
     if phase.crew as usize <= worker {
-        return turn_refused(phase, Refusal::NoWorker);
+        return Err(Refusal::NoWorker);
     }
     let moved = one_turn(
         phase.kind,
@@ -320,8 +239,77 @@ pub fn turn(device: Device, mut phase: Phase, cells: &mut [u64], worker: usize) 
         cells,
         phase.workers[worker],
     );
-    let next = moved.worker;
-    let reply = moved.reply;
-    phase.workers[worker] = next;
+    phase.workers[worker] = moved.worker;
+    moved.reply
+}
+
+pub fn close_in_place(phase: &mut Phase) -> Result<(), Refusal>
+    ensures { (d : Device) → is_well_formed (model_of d) phase.old ≡ true
+        → record { phase = phase.new; reply = result } ≡ close_call (model_of d) phase.old }
+{
+    if phase.shut {
+        return Err(Refusal::Shut);
+    }
+    if !all_idle(&phase.workers) {
+        return Err(Refusal::Working);
+    }
+    phase.shut = true;
+    Ok(())
+}
+
+// ---- the calls by value
+// The order call by what was found for it.
+pub fn order_found(
+    device: Device,
+    mut phase: Phase,
+    found: Option<Order>,
+    worker: usize,
+    key: u32,
+) -> Replied
+    ensures { result ≡ order_found (model_of device) phase found worker key }
+{
+    let reply = if is_well_formed(device, &phase) {
+        order_in_place(&mut phase, found, worker, key)
+    } else {
+        Err(Refusal::Spoilt)
+    };
+    Replied { phase, reply }
+}
+
+// The order call: in an insert phase by line `line` of the list, in the others for the worker and the key that are handed in.
+pub fn order<L: Lines>(
+    device: Device,
+    phase: Phase,
+    list: L,
+    line: usize,
+    worker: usize,
+    key: u32,
+) -> Replied
+    ensures { result ≡ order_call (model_of device) phase (L.orders list) line worker key }
+{
+    order_found(device, phase, list.line(line), worker, key)
+}
+
+// A turn of one worker of the phase.
+pub fn turn(device: Device, mut phase: Phase, cells: &mut [u64], worker: usize) -> Turned
+    ensures { (result ≡ turn_call (model_of device) phase cells.old worker) × (cells.new ≡ turn_table (model_of device) phase cells.old worker) }
+{
+    let reply = if is_well_formed(device, &phase) {
+        turn_in_place(&mut phase, cells, worker)
+    } else {
+        Err(Refusal::Spoilt)
+    };
     Turned { phase, reply }
+}
+
+pub fn close(device: Device, mut phase: Phase) -> Replied
+    ensures { result ≡ close_call (model_of device) phase }
+{
+    let good = is_well_formed(device, &phase);
+    let reply = if good {
+        close_in_place(&mut phase)
+    } else {
+        Err(Refusal::Spoilt)
+    };
+    Replied { phase, reply }
 }

@@ -1,4 +1,5 @@
 -- The phase of specs/Altered, computed and by the promise on calls with lists of their own.
+use Rattle.std.specs.Prelude.{Ok}
 use mathlib.Core.Path.{◌≡◌, refl}
 use mathlib.Core.Logic.{inl, inr}
 use mathlib.Core.List.{[], ◌∷◌}
@@ -19,7 +20,6 @@ use Rattle.rule.proofs.Schedules.{same-table}
 use Rattle.activities.specs.declared.Activity.TheVariants.{Reading}
 use Rattle.state.specs.Model.{gateway}
 use Rattle.state.specs.Open.{open_reply}
-use Rattle.state.specs.declared.Reply.TheVariants.{Accepted}
 use Rattle.state.proofs.Model.{gateway-proper}
 use Rattle.protocol.specs.Bars.{doing}
 use Rattle.protocol.specs.IsWellFormed.{is_well_formed}
@@ -37,11 +37,11 @@ ordered-tested = tt
 ordered-is : overfull.ordered ≡ ones (4 ∷ 5 ∷ 3 ∷ [])
 ordered-is = same-table overfull.ordered (ones (4 ∷ 5 ∷ 3 ∷ [])) ordered-tested
 
-opens : open_reply gateway 1 1 plain (0 ∷ 0 ∷ []) (one_line 3 1 0) ≡ Accepted
+opens : open_reply gateway 1 1 plain (0 ∷ 0 ∷ []) (one_line 3 1 0) ≡ Ok tt
 unfolding meets_empty meets_key first all some dist probe prev wrap count into descending line_fault lines_fault
 opens = refl
 
-opens-delete : open_reply gateway 2 1 plain (ones (0 ∷ 7 ∷ [])) [] ≡ Accepted
+opens-delete : open_reply gateway 2 1 plain (ones (0 ∷ 7 ∷ [])) [] ≡ Ok tt
 unfolding meets_empty meets_key first all some dist probe prev wrap count
 opens-delete = refl
 

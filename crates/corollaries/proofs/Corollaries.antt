@@ -1,4 +1,5 @@
 -- The corollaries, each by its promise. Premises are computed, conclusions are not.
+use Rattle.std.specs.Prelude.{Option, ℕ, Some, Ok, Err}
 use mathlib.Core.Path.{◌≡◌, refl, sym, ap, ◌∙◌, subst}
 use mathlib.Core.Logic.{◌≢◌, ◌↔◌, inl, inr}
 use mathlib.Core.Bool.{true, false}
@@ -30,8 +31,6 @@ use Rattle.words.specs.Words.{filled, place_of, count_of}
 use Rattle.words.proofs.Places.{count-occupied}
 use Rattle.words.proofs.Theorem.{theorem as listings, steps as group-steps}
 use Rattle.activities.specs.declared.Activity.TheVariants.{Idle}
-use Rattle.rule.specs.declared.Place.{Place}
-use Rattle.rule.specs.declared.Place.TheVariants.{At}
 use Rattle.rule.specs.Events.{stepped, ordered, accepts, event, AllIdle}
 use Rattle.rule.specs.Events as events
 use Rattle.rule.specs.Rule.{settled, absorbed, insert_step, find_step, fits, narrow, delete_step, rule}
@@ -43,7 +42,6 @@ use Rattle.phases.specs.Promise.{most_steps, Sold, Rules, SameOrders}
 use Rattle.state.specs.Model.{gateway}
 use Rattle.state.specs.Open.{open_reply}
 use Rattle.state.specs.Refusals.{reply_number}
-use Rattle.state.specs.declared.Reply.TheVariants.{Accepted}
 use Rattle.state.proofs.Model.{gateway-proper}
 use Rattle.protocol.specs.Bars.{doing}
 use Rattle.protocol.specs.Calls.{turn_check}
@@ -52,8 +50,7 @@ use Rattle.protocol.specs.Promise.{Soundness}
 use Rattle.protocol.specs.WellFormed.{Size}
 use Rattle.protocol.proofs.Soundness.{sounds}
 use Rattle.state.specs.Counts.{count_number, count_value}
-use Rattle.state.specs.declared.Counted.{Counted}
-use Rattle.state.specs.declared.Counted.TheVariants as counted
+use Rattle.state.specs.Replies.{Counted}
 use Rattle.tables.specs.Calls.{check_call, count_call, list_call, list_after, list_front}
 use Rattle.tables.proofs.Theorem.{theorem as tables}
 use Rattle.history.specs.History.{turn, worked, call, run, turn_replies, opening, after}
@@ -74,39 +71,39 @@ use Rattle.corollaries.proofs.Members.{apart, is-in, not_in, all_in, least_in, s
 use Rattle.corollaries.proofs.Unsound.{disordered-intact, gapped-intact, full_damaged, gapped-is, disordered-is, behind-thirteen, in_order}
 
 -- ---- openings
-four-opens : (open_reply gateway 2 2 plain four [] ≡ Accepted) × (open_reply gateway 2 1 plain four [] ≡ Accepted)
+four-opens : (open_reply gateway 2 2 plain four [] ≡ Ok tt) × (open_reply gateway 2 1 plain four [] ≡ Ok tt)
 unfolding meets_empty meets_key first all some dist probe wrap
 four-opens = (refl, refl)
 
-four-looks : open_reply gateway 3 2 plain four [] ≡ Accepted
+four-looks : open_reply gateway 3 2 plain four [] ≡ Ok tt
 unfolding meets_empty meets_key first all some dist probe wrap
 four-looks = refl
 
-sheet-opens : (open_reply gateway 1 2 plain (empty_cells 5) sheet_items ≡ Accepted) × (open_reply gateway 1 3 plain (empty_cells 5) three_items ≡ Accepted)
+sheet-opens : (open_reply gateway 1 2 plain (empty_cells 5) sheet_items ≡ Ok tt) × (open_reply gateway 1 3 plain (empty_cells 5) three_items ≡ Ok tt)
 unfolding line_fault lines_fault descending into meets_empty meets_key first all some dist probe wrap
 sheet-opens = (refl, refl)
 
-empty-opens : (open_reply gateway 1 2 plain (empty_cells 5) price_items ≡ Accepted)
-    × (open_reply gateway 1 3 plain (empty_cells 5) more_price_items ≡ Accepted)
-    × (open_reply gateway 1 2 plain (empty_cells 5) the_price_items ≡ Accepted)
+empty-opens : (open_reply gateway 1 2 plain (empty_cells 5) price_items ≡ Ok tt)
+    × (open_reply gateway 1 3 plain (empty_cells 5) more_price_items ≡ Ok tt)
+    × (open_reply gateway 1 2 plain (empty_cells 5) the_price_items ≡ Ok tt)
 unfolding line_fault lines_fault descending into meets_empty meets_key first all some dist probe wrap
 empty-opens = (refl, refl, refl)
 
-prices-open : (open_reply gateway 1 2 plain at_prices reprice_items ≡ Accepted)
-    × (open_reply gateway 2 1 plain at_prices [] ≡ Accepted)
-    × (open_reply gateway 3 2 plain at_prices wrong_lines ≡ Accepted)
+prices-open : (open_reply gateway 1 2 plain at_prices reprice_items ≡ Ok tt)
+    × (open_reply gateway 2 1 plain at_prices [] ≡ Ok tt)
+    × (open_reply gateway 3 2 plain at_prices wrong_lines ≡ Ok tt)
 unfolding line_fault lines_fault descending into meets_empty meets_key first all some dist probe wrap
 prices-open = (refl, refl, refl)
 
-thirteen-opens : open_reply gateway 2 1 plain with_thirteen [] ≡ Accepted
+thirteen-opens : open_reply gateway 2 1 plain with_thirteen [] ≡ Ok tt
 unfolding meets_empty meets_key first all some dist probe wrap
 thirteen-opens = refl
 
-four-refused : (os : List Order) → open_reply gateway 4 1 plain four os ≢ Accepted
+four-refused : (os : List Order) → open_reply gateway 4 1 plain four os ≢ (Ok tt)
 unfolding meets_empty meets_key first all some dist probe wrap
 four-refused os e = let z : ◌≡◌ {A = ℕ} 3 0 = ap reply_number e in omega arith
 
-seven-refused : open_reply gateway 1 1 plain (ones (0 ∷ 7 ∷ [])) (one_line 4 1 0) ≢ Accepted
+seven-refused : open_reply gateway 1 1 plain (ones (0 ∷ 7 ∷ [])) (one_line 4 1 0) ≢ (Ok tt)
 unfolding line_fault lines_fault descending into meets_empty meets_key first all some dist probe wrap
 seven-refused e = let z : ◌≡◌ {A = ℕ} 9 0 = ap reply_number e in omega arith
 
@@ -423,17 +420,17 @@ four-keys : (y : ℕ) → label y ≢ 0 → Holds 5 four y ↔ Least label four_
 four-keys y nz = (λ h. (four_same y nz).0 (four-own y nz (held_in 5 four y refl h)), λ l. in-holds 5 four y refl ((four_same y nz).1 l).member)
 
 -- ---- turns
-turns-pass : (turn_check gateway few_workers four 1 ≡ Accepted) × (turn_check gateway many_workers altered 7 ≡ Accepted)
+turns-pass : (turn_check gateway few_workers four 1 ≡ Ok tt) × (turn_check gateway many_workers altered 7 ≡ Ok tt)
 unfolding is_well_formed
 turns-pass = (refl, refl)
 
-cell-alike : (c : ℕ) → ◌≡◌ {A = Place} (At 4) (At c) → get_or four c 0 ≡ get_or altered c 0
+cell-alike : (c : ℕ) → ◌≡◌ {A = (Option ℕ)} (Some 4) (Some c) → get_or four c 0 ≡ get_or altered c 0
 cell-alike c e = let z : 4 ≡ c = cc in subst (λ (x : ℕ). get_or four x 0 ≡ get_or altered x 0) z refl
 
 alike : Alike gateway few_workers many_workers four altered 1 7
 alike = two_turns gateway few_workers many_workers four altered 1 7 turns-pass.0 turns-pass.1 refl refl refl refl cell-alike
 
-other_place : (c : ℕ) → c ≢ 4 → ◌≢◌ {A = Place} (At 4) (At c)
+other_place : (c : ℕ) → c ≢ 4 → ◌≢◌ {A = (Option ℕ)} (Some 4) (Some c)
 other_place c ne e = let z : c ≡ 4 = cc in ne z
 
 -- ---- listing
@@ -498,8 +495,8 @@ gapped-counted : count_value (count_call gateway plain gapped) ≡ 0
 gapped-counted = go (count_call gateway plain gapped) ((tables gateway gateway-proper plain gapped []).count_refused ∙ check-gap)
   where
     go : (a : Counted) → count_number a ≡ 17 → count_value a ≡ 0
-    go (counted.Count c) e = absurd (omega arith)
-    go (counted.Refused why) e = refl
+    go (Ok c) e = absurd (omega arith)
+    go (Err why) e = refl
 
 four-before : keys_before four 5 ≡ 4
 unfolding count

@@ -1,4 +1,5 @@
 -- The corollaries on other lengths and kinds, each by its promise. Premises are computed, conclusions are not.
+use Rattle.std.specs.Prelude.{Option, ℕ, Some, Ok}
 use mathlib.Core.Path.{◌≡◌, refl, sym, ap, ◌∙◌, subst}
 use mathlib.Core.Logic.{◌≢◌, ◌↔◌, inl}
 use mathlib.Core.Bool.{true}
@@ -23,8 +24,6 @@ use Rattle.flaws.specs.Flaws.{meets_empty, meets_key}
 use Rattle.flaws.specs.Promise.{Intact, Gapped, Disordered}
 use Rattle.orders.specs.Orders.{line_fault, lines_fault}
 use Rattle.words.specs.Promise.{keys_before}
-use Rattle.rule.specs.declared.Place.{Place}
-use Rattle.rule.specs.declared.Place.TheVariants.{At}
 use Rattle.rule.specs.Events.{stepped, ordered, accepts, event, AllIdle}
 use Rattle.rule.specs.Events as events
 use Rattle.rule.specs.Rule.{settled, absorbed, insert_step, find_step, rule}
@@ -36,7 +35,6 @@ use Rattle.determinism.proofs.Theorem.{one_end}
 use Rattle.state.specs.Model.{gateway}
 use Rattle.state.specs.Open.{open_reply}
 use Rattle.state.specs.Refusals.{reply_number}
-use Rattle.state.specs.declared.Reply.TheVariants.{Accepted}
 use Rattle.state.proofs.Model.{gateway-proper}
 use Rattle.protocol.proofs.Soundness.{sounds}
 use Rattle.protocol.specs.Calls.{turn_check}
@@ -57,18 +55,18 @@ use Rattle.examples.proofs.Sound.{plain-odd, sound-says}
 use Rattle.corollaries.proofs.Members.{apart, all_in, all_in_lem, least_in, same-prices, is-least, own_least, own-least, same_keys, same-orders}
 
 -- ---- openings
-seven-opens : (open_reply gateway 3 1 plain seven [] ≡ Accepted)
-    × (open_reply gateway 3 2 plain seven [] ≡ Accepted)
-    × (open_reply gateway 1 1 plain seven (one_line 7 1 0) ≡ Accepted)
+seven-opens : (open_reply gateway 3 1 plain seven [] ≡ Ok tt)
+    × (open_reply gateway 3 2 plain seven [] ≡ Ok tt)
+    × (open_reply gateway 1 1 plain seven (one_line 7 1 0) ≡ Ok tt)
 unfolding line_fault lines_fault descending into meets_empty meets_key first all some dist probe wrap
 seven-opens = (refl, refl, refl)
 
-three-opens : (open_reply gateway 1 1 plain (empty_cells 3) one_items ≡ Accepted) × (open_reply gateway 1 2 plain (empty_cells 3) two_items ≡ Accepted)
+three-opens : (open_reply gateway 1 1 plain (empty_cells 3) one_items ≡ Ok tt) × (open_reply gateway 1 2 plain (empty_cells 3) two_items ≡ Ok tt)
 unfolding line_fault lines_fault descending into meets_empty meets_key first all some dist probe wrap
 three-opens = (refl, refl)
 
-three-open-prices : (open_reply gateway 1 1 plain (empty_cells 3) one_price_items ≡ Accepted)
-    × (open_reply gateway 1 2 plain (empty_cells 3) two_price_items ≡ Accepted)
+three-open-prices : (open_reply gateway 1 1 plain (empty_cells 3) one_price_items ≡ Ok tt)
+    × (open_reply gateway 1 2 plain (empty_cells 3) two_price_items ≡ Ok tt)
 unfolding line_fault lines_fault descending into meets_empty meets_key first all some dist probe wrap
 three-open-prices = (refl, refl)
 
@@ -197,17 +195,17 @@ check-accepted =
     none.1 (((((tt, two_cells), plain-odd), whole), gapless), ordered)
 
 -- ---- turns: the cell touched is alike
-insert-cell : (c : ℕ) → ◌≡◌ {A = Place} (At 1) (At c) → get_or emptied c 0 ≡ get_or also_emptied c 0
+insert-cell : (c : ℕ) → ◌≡◌ {A = (Option ℕ)} (Some 1) (Some c) → get_or emptied c 0 ≡ get_or also_emptied c 0
 insert-cell c e = let z : 1 ≡ c = cc in subst (λ (x : ℕ). get_or emptied x 0 ≡ get_or also_emptied x 0) z refl
 
-find-cell : (c : ℕ) → ◌≡◌ {A = Place} (At 1) (At c) → get_or holding c 0 ≡ get_or also_holding c 0
+find-cell : (c : ℕ) → ◌≡◌ {A = (Option ℕ)} (Some 1) (Some c) → get_or holding c 0 ≡ get_or also_holding c 0
 find-cell c e = let z : 1 ≡ c = cc in subst (λ (x : ℕ). get_or holding x 0 ≡ get_or also_holding x 0) z refl
 
-insert-pass : (turn_check gateway replacing emptied 0 ≡ Accepted) × (turn_check gateway (third replacing) also_emptied 2 ≡ Accepted)
+insert-pass : (turn_check gateway replacing emptied 0 ≡ Ok tt) × (turn_check gateway (third replacing) also_emptied 2 ≡ Ok tt)
 unfolding is_well_formed
 insert-pass = (refl, refl)
 
-find-pass : (turn_check gateway looking holding 0 ≡ Accepted) × (turn_check gateway (third looking) also_holding 2 ≡ Accepted)
+find-pass : (turn_check gateway looking holding 0 ≡ Ok tt) × (turn_check gateway (third looking) also_holding 2 ≡ Ok tt)
 unfolding is_well_formed
 find-pass = (refl, refl)
 

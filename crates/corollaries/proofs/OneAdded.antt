@@ -1,4 +1,5 @@
 -- The shifts of specs/OneAdded, computed and by the promises.
+use Rattle.std.specs.Prelude.{Ok}
 use mathlib.Core.Path.{◌≡◌, refl, sym, ap, ◌∙◌, subst}
 use mathlib.Core.Logic.{inl, inr}
 use mathlib.Core.Bool.{true}
@@ -25,7 +26,6 @@ use Rattle.state.specs.Model.{model_of}
 use Rattle.state.specs.Open.{open_reply}
 use Rattle.state.specs.declared.Device.{Device}
 use Rattle.state.specs.declared.Device.TheVariants.{Gateway, Kiosk}
-use Rattle.state.specs.declared.Reply.TheVariants.{Accepted}
 use Rattle.state.proofs.Model.{proper}
 use Rattle.protocol.specs.IsWellFormed.{is_well_formed}
 use Rattle.protocol.specs.Lines.{Good}
@@ -42,7 +42,7 @@ use Rattle.corollaries.specs.Corollaries.{turns_of, rounds}
 use Rattle.corollaries.specs.OneAdded.{eights, put_in, take_one_out, added, removed, OneAdded}
 use Rattle.corollaries.proofs.Members.{not_in}
 
-lists-open : (d : Device) → open_reply (model_of d) 1 2 plain five eights ≡ Accepted
+lists-open : (d : Device) → open_reply (model_of d) 1 2 plain five eights ≡ Ok tt
 unfolding line_fault lines_fault descending into meets_empty meets_key first all some dist probe wrap
 lists-open Gateway = refl
 lists-open Kiosk = refl

@@ -1,4 +1,5 @@
 -- The corollaries on single calls, each by its promise. Premises are computed, conclusions are not.
+use Rattle.std.specs.Prelude.{Ok}
 use mathlib.Core.Path.{◌≡◌, refl, sym, ap, ap₂, ◌∙◌}
 use mathlib.Core.Logic.{◌≢◌, ◌⊎◌, inl, inr, ⊎_elim}
 use mathlib.Core.Bool.{false}
@@ -39,9 +40,8 @@ use Rattle.protocol.specs.Promise.{Made, opened, ordered as madeByOrder, turned,
 use Rattle.protocol.specs.Split.{one_turn, one_cells, SplitTurn, SplitOrder}
 use Rattle.protocol.specs.WellFormed.{Size, Crew, WellFormed}
 use Rattle.protocol.specs.declared.Moved.{Moved}
-use Rattle.protocol.specs.declared.TurnReply.TheVariants.{Answered}
 use Rattle.protocol.proofs.Keeping.{places, each-never-spoilt}
-use Rattle.protocol.proofs.Lines.{blank_first, test_first, price-first, worker-first, fills-says}
+use Rattle.protocol.proofs.Lines.{fault_number, blank_first, test_first, price-first, worker-first, fills-says}
 use Rattle.protocol.proofs.Soundness.{sounds}
 use Rattle.protocol.proofs.Split.{splits}
 use Rattle.protocol.proofs.Theorem.{well-formed, opens, orders, turns, closes}
@@ -70,22 +70,22 @@ rests : Resting gateway 1 5 2 false plain just_opened
 rests = (opens gateway 1 2 plain (empty_cells 5) sheet_items).accepted opened-number
 
 -- a line that decides gives its own number
-module _ (m : ℕ) (os : List Order) (r : ℕ) (e : lines_fault m os ≡ r) where
+module _ (m : ℕ) (os : List Order) (r : ℕ) (e : fault_number (lines_fault m os) ≡ r) where
   not_blank : r ≢ 7 → Earliest m os (λ (o : Order). o.key ≡ 0) → ⊥
-  not_blank ne h = ne (sym e ∙ eqb-true (lines_fault m os) 7 ((blank_first m os).1 h))
+  not_blank ne h = ne (sym e ∙ eqb-true (fault_number (lines_fault m os)) 7 ((blank_first m os).1 h))
 
   not-testing : r ≢ 24 → Earliest m os (λ (o : Order). TestKey o.key) → ⊥
-  not-testing ne h = ne (sym e ∙ eqb-true (lines_fault m os) 24 ((test_first m os).1 h))
+  not-testing ne h = ne (sym e ∙ eqb-true (fault_number (lines_fault m os)) 24 ((test_first m os).1 h))
 
   not-priceless : r ≢ 14 → Earliest m os (λ (o : Order). (o.key ≢ 0) × ShopKey o.key × Mispriced o.price) → ⊥
-  not-priceless ne h = ne (sym e ∙ eqb-true (lines_fault m os) 14 ((price-first m os).1 h))
+  not-priceless ne h = ne (sym e ∙ eqb-true (fault_number (lines_fault m os)) 14 ((price-first m os).1 h))
 
   not_workless : r ≢ 6 → Earliest m os (λ (o : Order). (o.key ≢ 0) × ShopKey o.key × Priced o.price × (m ≤ o.worker)) → ⊥
-  not_workless ne h = ne (sym e ∙ eqb-true (lines_fault m os) 6 ((worker-first m os).1 h))
+  not_workless ne h = ne (sym e ∙ eqb-true (fault_number (lines_fault m os)) 6 ((worker-first m os).1 h))
 
 -- on a table that opens, with good lines: the labels alone decide
 module _ (m : ℕ) (t : List ℕ) (os : List Order) (cells : Size gateway (length t)) (crew : Crew gateway m) (few : length os ≤ 65536)
-    (sound : Soundness gateway plain t) (good : lines_fault m os ≡ 0) where
+    (sound : Soundness gateway plain t) (good : fault_number (lines_fault m os) ≡ 0) where
   fits : (Fills t os → ⊥) → reply_number (open_call gateway 1 m plain t os).reply ≡ 0
   fits fewer =
       let (_, (_, (_, (_, (_, (_, (_, (_, (_, (_, (_, (_, (_, none))))))))))))) = (opens gateway 1 m plain t os).inserts refl in
@@ -124,7 +124,7 @@ five-sound : Soundness gateway plain (empty_cells 5)
 unfolding meets_empty meets_key first all some dist probe wrap
 five-sound = (sounds.words gateway plain (empty_cells 5)).0 ((sound-says plain (empty_cells 5)).0 tt)
 
-good-line : (l : ℕ) → l ≢ 0 → ShopKey l → lines_fault 1 (one_line l 1 0) ≡ 0
+good-line : (l : ℕ) → l ≢ 0 → ShopKey l → fault_number (lines_fault 1 (one_line l 1 0)) ≡ 0
 unfolding line_fault lines_fault
 good-line l nz shop = rw (ne_eqb l 0 nz, lt-leb 4000000000 l shop)
 
@@ -139,7 +139,7 @@ four-overflows =
     four-fills
 
 -- a worker that the crew lacks, in the first line
-worker-lacks : lines_fault 2 worker_before_blank ≡ 6
+worker-lacks : fault_number (lines_fault 2 worker_before_blank) ≡ 6
 unfolding line_fault lines_fault
 worker-lacks = refl
 
@@ -176,7 +176,7 @@ unfolding line_fault lines_fault descending into meets_empty meets_key first all
 prices-open = refl
 
 -- many lines, all alike
-all-good : (n : ℕ) → lines_fault 2 (replicate n (order_with 3 1 0)) ≡ 0
+all-good : (n : ℕ) → fault_number (lines_fault 2 (replicate n (order_with 3 1 0))) ≡ 0
 unfolding line_fault lines_fault
 all-good zero = refl
 all-good (suc n) = all-good n
@@ -317,7 +317,7 @@ unwritten : (t : List ℕ) → get_or t 4 0 ≢ one 8 → (c : ℕ) → get_or (
 unwritten t other c = same-content t (turn_table gateway few_workers t 1) c (λ ne.
     not-replaced t other c (get_or (turn_table gateway few_workers t 1) c 0) ((turns gateway few_workers t 1).writes c ne))
 
-said-price : (turn_call gateway (looking_up 13 3) four 0).reply ≡ Answered (Price 1)
+said-price : (turn_call gateway (looking_up 13 3) four 0).reply ≡ Ok (Price 1)
 unfolding is_well_formed rule find_step
 said-price = refl
 
@@ -334,7 +334,7 @@ split-order = splits.order gateway few_workers few-formed refl [] 0 0 9 refl (om
 
 -- the worker alone
 one-turn : one_turn gateway 2 plain 5 four (worker (Replacing (one 8) 4 0 (one 4)))
-    ≡ record { worker = worker (WalkingBack (one 4) 0); reply = Answered WentOn }
+    ≡ record { worker = worker (WalkingBack (one 4) 0); reply = Ok WentOn }
 unfolding rule delete_step
 one-turn = refl
 

@@ -1,4 +1,5 @@
 -- The corollaries on homes that spread, each by its promise. Premises are computed, conclusions are not.
+use Rattle.std.specs.Prelude.{Option, ℕ, Some, Ok}
 use mathlib.Core.Path.{◌≡◌, refl, sym, ap, ◌∙◌, subst}
 use mathlib.Core.Logic.{◌≢◌, ◌⊎◌, inl, inr}
 use mathlib.Core.Bool.{Bool, true, false, false≢true}
@@ -26,8 +27,6 @@ use Rattle.orders.specs.declared.Order.{Order}
 use Rattle.words.specs.Promise.{keys_before}
 use Rattle.activities.specs.declared.Activity.TheVariants.{Reading, WalkingBack, SeekingForward, SeekingBack}
 use Rattle.rule.specs.declared.Answer.TheVariants.{WentOn, Finished}
-use Rattle.rule.specs.declared.Place.{Place}
-use Rattle.rule.specs.declared.Place.TheVariants.{At}
 use Rattle.rule.specs.Rule.{settled, absorbed, insert_step, fits, narrow, delete_step, rule}
 use Rattle.rule.specs.Schedules.{one, ones}
 use Rattle.phases.specs.Promise.{SameOrders}
@@ -37,7 +36,6 @@ use Rattle.state.specs.Open.{open_reply, open_call}
 use Rattle.state.specs.Refusals.{reply_number}
 use Rattle.state.specs.declared.Device.TheVariants.{Gateway}
 use Rattle.state.specs.declared.Phase.{Phase}
-use Rattle.state.specs.declared.Reply.TheVariants.{Accepted}
 use Rattle.state.proofs.Model.{gateway-proper}
 use Rattle.protocol.specs.Bars.{doing}
 use Rattle.protocol.specs.Calls.{turn_number, close_call, order_call, turn_call, turn_check}
@@ -45,7 +43,6 @@ use Rattle.protocol.specs.IsWellFormed.{is_well_formed}
 use Rattle.protocol.specs.Promise.{with_hash, opened, Soundness}
 use Rattle.protocol.specs.Split.{one_turn, SplitTurn}
 use Rattle.protocol.specs.WellFormed.{Size, Crew, Kind, WellFormed}
-use Rattle.protocol.specs.declared.TurnReply.TheVariants.{Answered}
 use Rattle.protocol.proofs.Homing.{homing}
 use Rattle.protocol.proofs.Keeping.{each-never-spoilt}
 use Rattle.protocol.proofs.Soundness.{sounds}
@@ -59,6 +56,7 @@ use Rattle.history.specs.Promise.{entries_after, Alike, Claim}
 use Rattle.history.proofs.Theorem.{any_lists, fixed, one_table, refused, two_turns}
 use Rattle.history.proofs.Theorem as histories
 use Rattle.numbered.specs.Numbers.{turn_answer}
+use Rattle.protocol.specs.Replies.{TurnReply}
 use Rattle.examples.specs.Forms.{empty_cells, phase_by, worker, all_idle, busy_by}
 use Rattle.examples.specs.Orders.{one_line}
 use Rattle.corollaries.specs.Altered.{three_keys}
@@ -72,21 +70,21 @@ use Rattle.examples.proofs.Sound.{sound-says}
 use Rattle.corollaries.proofs.Members.{apart, all_in, least_in, same-prices, same_keys, same-orders}
 
 -- ---- openings
-puts_open : (open_reply gateway 1 2 six_less (empty_cells 5) sheet_items ≡ Accepted) × (open_reply gateway 1 3 six_less (empty_cells 5) three_items ≡ Accepted)
+puts_open : (open_reply gateway 1 2 six_less (empty_cells 5) sheet_items ≡ Ok tt) × (open_reply gateway 1 3 six_less (empty_cells 5) three_items ≡ Ok tt)
 unfolding line_fault lines_fault descending into meets_empty meets_key first all some dist probe wrap
 puts_open = (refl, refl)
 
-takes-open : (open_reply gateway 2 2 six_less six_less_image [] ≡ Accepted)
-    × (open_reply gateway 2 1 six_less six_less_image [] ≡ Accepted)
-    × (open_reply gateway 3 1 six_less six_less_image [] ≡ Accepted)
+takes-open : (open_reply gateway 2 2 six_less six_less_image [] ≡ Ok tt)
+    × (open_reply gateway 2 1 six_less six_less_image [] ≡ Ok tt)
+    × (open_reply gateway 3 1 six_less six_less_image [] ≡ Ok tt)
 unfolding meets_empty meets_key first all some dist probe wrap
 takes-open = (refl, refl, refl)
 
-four-open : (open_reply gateway 1 1 (hash_of 5 4) (empty_cells 4) greater_first ≡ Accepted) × (open_reply gateway 1 1 plain (empty_cells 4) smaller_first ≡ Accepted)
+four-open : (open_reply gateway 1 1 (hash_of 5 4) (empty_cells 4) greater_first ≡ Ok tt) × (open_reply gateway 1 1 plain (empty_cells 4) smaller_first ≡ Ok tt)
 unfolding line_fault lines_fault descending into meets_empty meets_key first all some dist probe wrap
 four-open = (refl, refl)
 
-two-open : open_reply gateway 1 1 six_less (0 ∷ 0 ∷ []) (one_line 3 1 0) ≡ Accepted
+two-open : open_reply gateway 1 1 six_less (0 ∷ 0 ∷ []) (one_line 3 1 0) ≡ Ok tt
 unfolding line_fault lines_fault descending into meets_empty meets_key first all some dist probe wrap
 two-open = refl
 
@@ -165,7 +163,7 @@ takes-claim = histories.history gateway gateway-proper 2 2 six_less six_less_ima
 corner-proper : Proper corner
 corner-proper = record { some = omega arith; places = omega arith; homes = λ ab n x l. l }
 
-corner-open : open_reply corner 1 2 plain (empty_cells 5) sheet_items ≡ Accepted
+corner-open : open_reply corner 1 2 plain (empty_cells 5) sheet_items ≡ Ok tt
 unfolding line_fault lines_fault descending into meets_empty meets_key first all some dist probe wrap
 corner-open = refl
 
@@ -215,7 +213,7 @@ no_kind ab os =
     let (_, (_, (three, _))) = (opens gateway 4 1 ab four os).others (apart 4 1 tt) in
     three.1 (((tt, five-cells), (omega arith, omega arith)), λ (_, l). omega arith)
 
-not_opened : (ab : Hash) (os : List Order) → open_reply gateway 4 1 ab four os ≢ Accepted
+not_opened : (ab : Hash) (os : List Order) → open_reply gateway 4 1 ab four os ≢ (Ok tt)
 not_opened ab os e = let z = ap reply_number ((opens gateway 4 1 ab four os).reply ∙ e) in omega (arith, z, no_kind ab os)
 
 one_cell : (ab : Hash) → reply_number (check_call gateway ab (one 7 ∷ [])) ≡ 1
@@ -272,11 +270,11 @@ formed-if p ne = go (is_well_formed gateway p) refl
     go false e = absurd (ne ((closes gateway p).answers.0.1 (tt, λ g. false≢true (sym e ∙ (well-formed gateway p).1 g))))
 
 -- ---- turns and orders
-turns-pass : (turn_check gateway few_spread six_less_image 1 ≡ Accepted) × (turn_check gateway many_spread like_in_four 7 ≡ Accepted)
+turns-pass : (turn_check gateway few_spread six_less_image 1 ≡ Ok tt) × (turn_check gateway many_spread like_in_four 7 ≡ Ok tt)
 unfolding is_well_formed
 turns-pass = (refl, refl)
 
-cell-alike : (c : ℕ) → ◌≡◌ {A = Place} (At 4) (At c) → get_or six_less_image c 0 ≡ get_or like_in_four c 0
+cell-alike : (c : ℕ) → ◌≡◌ {A = (Option ℕ)} (Some 4) (Some c) → get_or six_less_image c 0 ≡ get_or like_in_four c 0
 cell-alike c e = let z : 4 ≡ c = cc in subst (λ (x : ℕ). get_or six_less_image x 0 ≡ get_or like_in_four x 0) z refl
 
 alike : Alike gateway few_spread many_spread six_less_image like_in_four 1 7
@@ -289,15 +287,15 @@ few-formed ab = (well-formed gateway (with_hash few_spread ab)).0 refl
 split : (ab : Hash) → SplitTurn gateway (with_hash few_spread ab) six_less_image 1
 split ab = splits.turn gateway (with_hash few_spread ab) (few-formed ab) refl six_less_image refl 1 (omega arith)
 
-finished-not-on : Answered Finished ≢ Answered WentOn
-finished-not-on e = let z : ◌≡◌ {A = ℕ} (turn_answer (Answered Finished)) (turn_answer (Answered WentOn)) = ap turn_answer e in omega arith
+finished-not-on : ◌≢◌ {A = TurnReply} (Ok Finished) (Ok WentOn)
+finished-not-on e = let z : ◌≡◌ {A = ℕ} (turn_answer (Ok Finished)) (turn_answer (Ok WentOn)) = ap turn_answer e in omega arith
 
 -- the worker alone
-home_reached : (one_turn gateway 2 six_less 5 six_less_image (worker (WalkingBack (one 8) 4))).reply ≡ Answered Finished
+home_reached : (one_turn gateway 2 six_less 5 six_less_image (worker (WalkingBack (one 8) 4))).reply ≡ Ok Finished
 unfolding rule delete_step
 home_reached = refl
 
-home_before : (one_turn gateway 2 plain 5 six_less_image (worker (WalkingBack (one 8) 4))).reply ≡ Answered WentOn
+home_before : (one_turn gateway 2 plain 5 six_less_image (worker (WalkingBack (one 8) 4))).reply ≡ Ok WentOn
 unfolding rule delete_step
 home_before = refl
 

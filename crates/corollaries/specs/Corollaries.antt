@@ -1,6 +1,6 @@
 -- What the promises say of calls, turns and tables that are written out. Each is proved by its promise, with nothing left to assume, and not by
 -- computing it: a premise that no caller can meet would be noticed here.
-use Rattle.std.specs.Prelude.{◌≡◌, ◌≢◌, ◌⊎◌, true, false, List, [], ◌∷◌, ◌++◌, ℕ, zero, suc, ◌≤◌, ◌<◌, T, eqb, length, get_or, set, replicate}
+use Rattle.std.specs.Prelude.{◌≡◌, ◌≢◌, ◌⊎◌, true, false, List, [], ◌∷◌, ◌++◌, ℕ, zero, suc, ◌≤◌, ◌<◌, T, eqb, length, get_or, set, replicate, Ok}
 use Rattle.std.specs.Int.Count as digits
 use Rattle.ring.specs.Counting.{count}
 use Rattle.layout.specs.Home.{modulo}
@@ -30,14 +30,12 @@ use Rattle.state.specs.Open.{open_call}
 use Rattle.state.specs.Refusals.{reply_number}
 use Rattle.state.specs.declared.Phase.{Phase}
 use Rattle.state.specs.declared.Replied.{Replied}
-use Rattle.state.specs.declared.Reply.TheVariants.{Accepted}
 use Rattle.protocol.specs.Bars.{doing}
 use Rattle.protocol.specs.Calls.{close_call, order_call, turn_call, turn_table}
 use Rattle.protocol.specs.IsWellFormed.{is_well_formed}
 use Rattle.protocol.specs.Lines.{Good}
 use Rattle.protocol.specs.Promise.{with_hash, Soundness, Taken}
 use Rattle.protocol.specs.WellFormed.{Size, Crew, Kind}
-use Rattle.protocol.specs.declared.TurnReply.TheVariants.{Answered}
 use Rattle.tables.specs.Calls.{check_call, count_call, list_call, list_after, list_front}
 use Rattle.history.specs.History.{Call, order, turn, close, after, after_lent}
 use Rattle.history.specs.Promise.{Carried, present, OfLine}
@@ -254,8 +252,8 @@ pub record Corollaries : Type 0 where
   pub acceptable : (y : ℕ) → In y (after gateway 1 2 plain (empty_cells 5) price_items two_price).ordered → (1 ≤ price y) × (price y ≤ 9999999)
   -- put in: it is of a line of the list; and until the close every line is accepted whenever its worker is idle, also one that was given before
   pub listed_only : (y : ℕ) → In y (after gateway 1 2 plain (empty_cells 5) price_items two_price).ordered → OfLine price_items y
-  pub accepts : (w v : ℕ) → (order_call gateway (after gateway 1 2 plain (empty_cells 5) sheet_items half_put_in).phase sheet_items 2 w v).reply ≡ Accepted
-  pub accepts_again : (w v : ℕ) → (order_call gateway (after gateway 1 2 plain (empty_cells 5) sheet_items half_put_in).phase sheet_items 0 w v).reply ≡ Accepted
+  pub accepts : (w v : ℕ) → (order_call gateway (after gateway 1 2 plain (empty_cells 5) sheet_items half_put_in).phase sheet_items 2 w v).reply ≡ Ok tt
+  pub accepts_again : (w v : ℕ) → (order_call gateway (after gateway 1 2 plain (empty_cells 5) sheet_items half_put_in).phase sheet_items 0 w v).reply ≡ Ok tt
   -- put in, between two turns: every label's way holds only greater labels; the table's and the carried ones are those at opening and those ordered
   pub ordering : Ordered 5 (spread plain 5) (labels label (after gateway 1 2 plain (empty_cells 5) sheet_items half_put_in).table)
   pub union : In 3 (labels label (after gateway 1 2 plain (empty_cells 5) sheet_items half_put_in).table)
@@ -401,9 +399,9 @@ pub record CallCorollaries : Type 0 where
   pub reprices : get_or (turn_table gateway repricing at_prices 0) 3 0 ≡ content 8 2
   pub deletes : get_or (turn_table gateway few_workers four 1) 4 0 ≡ one 4
   -- a put-in that meets its label at no higher price finishes; at a higher one it replaces that, and finishes
-  pub stands : (turn_call gateway (meeting 9) at_prices 0).reply ≡ Answered Finished
+  pub stands : (turn_call gateway (meeting 9) at_prices 0).reply ≡ Ok Finished
   pub undercuts : doing (turn_call gateway (meeting 8) at_prices 0).phase 0 ≡ Replacing (content 8 8) 3 3 (content 8 9)
-  pub ends : (turn_call gateway repricing at_prices 0).reply ≡ Answered Finished
+  pub ends : (turn_call gateway repricing at_prices 0).reply ≡ Ok Finished
   -- a content without a label is copied as 0
   pub empties : get_or (turn_table gateway emptying at_prices 0) 3 0 ≡ 0
   -- no other turn changes a cell: one that finds another content, or its label at another price, and one that reads
@@ -412,9 +410,9 @@ pub record CallCorollaries : Type 0 where
   pub reads : (c : ℕ) → get_or (turn_table gateway many_workers four 0) c 0 ≡ get_or four c 0
   -- a look-up that is answered a price or no has finished; the price if the cell holds its label, else no
   pub finished : doing (turn_call gateway (looking_up 13 3) four 0).phase 0 ≡ Idle
-  pub says_price : (q : ℕ) → (turn_call gateway (looking_up 3 4) at_prices 0).reply ≡ Answered (Price q) → q ≡ 7
-  pub not_price : (q : ℕ) → (turn_call gateway (looking_up 9 4) four 0).reply ≢ Answered (Price q)
-  pub not_no : (turn_call gateway (looking_up 13 3) four 0).reply ≢ Answered No
+  pub says_price : (q : ℕ) → (turn_call gateway (looking_up 3 4) at_prices 0).reply ≡ Ok (Price q) → q ≡ 7
+  pub not_price : (q : ℕ) → (turn_call gateway (looking_up 9 4) four 0).reply ≢ Ok (Price q)
+  pub not_no : (turn_call gateway (looking_up 13 3) four 0).reply ≢ Ok No
   -- an idle worker's turn changes nothing
   pub idle : (turn_call gateway few_workers four 0).phase ≡ few_workers
   -- a turn leaves all of the record but its own worker
@@ -428,7 +426,7 @@ pub record CallCorollaries : Type 0 where
   pub unspoilt : reply_number (close_call gateway made_on_others).reply ≢ 13
   pub places : length made_on_others.workers ≡ 16
   -- a turn and an order of one worker apart from its record, put back
-  pub apart_reply : (turn_call gateway few_workers four 1).reply ≡ Answered WentOn
+  pub apart_reply : (turn_call gateway few_workers four 1).reply ≡ Ok WentOn
   pub apart_phase : (turn_call gateway few_workers four 1).phase ≡ busy_one 2 5 2 1 (WalkingBack (one 4) 0)
   pub apart_table : turn_table gateway few_workers four 1 ≡ ones (4 ∷ 3 ∷ 0 ∷ 13 ∷ 4 ∷ [])
   pub apart_order : (order_call gateway few_workers [] 7 0 9).phase ≡ phase 2 5 2 false (set few_workers.workers 0 (worker (Reading (content 9 0) 4)))
@@ -534,7 +532,7 @@ pub record SpreadCorollaries : Type 0 where
   -- with other ones they need not: 8 is not at its home by 1 and 0
   pub unlike : (turn_call gateway few_spread six_less_image 1).reply ≢ (turn_call gateway (with_hash few_spread plain) six_less_image 1).reply
   -- take out: the way back ends at the home by the record's a and b, also where a is even, and nowhere else
-  pub ends_at_home : (turn_call gateway (deleting_by twice (WalkingBack (one 8) 4)) (empty_cells 5) 1).reply ≡ Answered Finished
+  pub ends_at_home : (turn_call gateway (deleting_by twice (WalkingBack (one 8) 4)) (empty_cells 5) 1).reply ≡ Ok Finished
   pub walks_on : doing (turn_call gateway (deleting_by twice (WalkingBack (one 8) 3)) (empty_cells 5) 1).phase 1 ≡ WalkingBack (one 8) 2
   -- a label is taken for cell k if its way by them passes k: for cell 4 that in cell 0, 8; by others 8 is at home there. On the way back 6 is nearer, and 4
   -- is not
@@ -543,4 +541,4 @@ pub record SpreadCorollaries : Type 0 where
   pub nearer : Taken 5 1 (one 7) 0 1 (one 6) (doing (turn_call gateway (deleting_by six_less (SeekingBack 1 (one 7) 0 2 0)) (ones (7 ∷ 6 ∷ 0 ∷ 0 ∷ 0 ∷ [])) 1).phase 1)
   pub not_nearer : Taken 5 1 (one 9) 0 2 0 (doing (turn_call gateway (deleting_by twice (SeekingBack 1 (one 9) 0 2 0)) (ones (9 ∷ 4 ∷ 0 ∷ 0 ∷ 0 ∷ [])) 1).phase 1)
   -- a turn of one worker apart from its record, by a and b
-  pub apart_reply : (turn_call gateway few_spread six_less_image 1).reply ≡ Answered Finished
+  pub apart_reply : (turn_call gateway few_spread six_less_image 1).reply ≡ Ok Finished

@@ -1,4 +1,5 @@
 -- What a turn answers in an open phase that calls have led to, and what it leaves its worker.
+use Rattle.std.specs.Prelude.{Option, Some, None, Ok}
 use mathlib.Core.Path.{◌≡◌, refl, sym, ap, ◌∙◌, subst}
 use mathlib.Core.Logic.{◌≢◌, ◌↔◌, inl, inr}
 use mathlib.Core.Bool.{Bool, true, false, cond}
@@ -23,7 +24,6 @@ use Rattle.state.specs.declared.Phase.{Phase}
 use Rattle.protocol.specs.Bars.{doing}
 use Rattle.protocol.specs.Calls.{turn_call}
 use Rattle.protocol.specs.Promise.{Answers}
-use Rattle.protocol.specs.declared.TurnReply.TheVariants.{Answered}
 use Rattle.protocol.proofs.Theorem.{turns}
 use Rattle.history.specs.History.{turn, History, is_finish, call, after}
 use Rattle.history.proofs.Pending.{entry_left}
@@ -32,21 +32,20 @@ use Rattle.dealing.specs.Deal.{finish_by}
 use Rattle.dealing.specs.Reached.{From}
 use Rattle.dealing.specs.declared.Ended.{Ended}
 use Rattle.dealing.specs.declared.Ended.TheVariants as ended
-use Rattle.dealing.specs.declared.Finish.{Finish}
 use Rattle.dealing.proofs.Reached.{shown, kind, crew, after_one, turn-from}
 
 -- ---- the finish of an operation for the entry v in a phase of kind k that was opened on the table t
-abbrev pub Ends : ℕ → List ℕ → ℕ → Ended → Type 0
-Ends k t v ended.Nothing = ⊥
-Ends k t v ended.Finished = k ≢ 3
-Ends k t v (ended.Price q) = (k ≡ 3) × ((x : ℕ) → (q ≡ x) ↔ Sold label t (label v) x)
-Ends k t v ended.No = (k ≡ 3) × ((x : ℕ) → Sold label t (label v) x → ⊥)
+abbrev pub Ends : ℕ → List ℕ → ℕ → Option Ended → Type 0
+Ends k t v None = ⊥
+Ends k t v (Some ended.Finished) = k ≢ 3
+Ends k t v (Some (ended.Price q)) = (k ≡ 3) × ((x : ℕ) → (q ≡ x) ↔ Sold label t (label v) x)
+Ends k t v (Some ended.No) = (k ≡ 3) × ((x : ℕ) → Sold label t (label v) x → ⊥)
 
 -- ---- a worker that is doing `now` takes a turn with the answer a and then is doing `next`
 -- a final answer is the finish, and any other leaves it
 pub data Moves (k : ℕ) (t : List ℕ) (now next : Activity) (a : Answer) : Type 0 where
-  goes : (next ≡ Idle) ↔ (now ≡ Idle) → (k ≡ 3 → entry_of next ≡ entry_of now) → ((f : Finish) → finish_by f a ≡ f) → Moves k t now next a
-  ends : now ≢ Idle → next ≡ Idle → ((f : Finish) → Ends k t (entry_of now) (finish_by f a).ended) → Moves k t now next a
+  goes : (next ≡ Idle) ↔ (now ≡ Idle) → (k ≡ 3 → entry_of next ≡ entry_of now) → ((f : Option Ended) → finish_by f a ≡ f) → Moves k t now next a
+  ends : now ≢ Idle → next ≡ Idle → ((f : Option Ended) → Ends k t (entry_of now) (finish_by f a)) → Moves k t now next a
 
 module _ (k : ℕ) (t : List ℕ) (now next : Activity) (said : List Said) where
   moves : (a : Answer) → Answers k now next a → (k ≡ 3 → entry_left a (entry_of now) ≡ entry_of next) → (k ≡ 3 → Right label t (tells (entry_of now) a ++ said))
@@ -62,7 +61,7 @@ module _ (k : ℕ) (t : List ℕ) (now next : Activity) (said : List Said) where
 abbrev Adds : ℕ → Answer → History → History → Type 0
 Adds w a s r = (r.pending ≡ cond (is_finish a) (set s.pending w 0) s.pending) × (r.said ≡ tells (get_or s.pending w 0) a ++ s.said)
 
-turn-adds : (M : Model) (os : List Order) (s : History) (w : ℕ) (a : Answer) → (turn_call M s.phase s.table w).reply ≡ Answered a
+turn-adds : (M : Model) (os : List Order) (s : History) (w : ℕ) (a : Answer) → (turn_call M s.phase s.table w).reply ≡ Ok a
     → Adds w a s (call M os (turn w) s)
 unfolding call
 turn-adds M os s w a e = rw e (refl, refl)
@@ -76,7 +75,7 @@ module _ (M : Model) (proper : Proper M) (k m : ℕ) (ab : Hash) (t : List ℕ) 
   key-kept : (p : Phase) (u : List ℕ) (h : From M k m ab t os p u) (w : ℕ) → k ≡ 3 → get_or (after M k m ab t os h.calls).pending w 0 ≡ entry_of (doing p w)
   key-kept p u h w find = rw h.phase (let c = (shown M proper k m ab t os p u h).1.crew in (c.agree w).entry find ∙ ap entry_of (sym (c.same w)))
 
-  module _ (p : Phase) (u : List ℕ) (h : From M k m ab t os p u) (w : ℕ) (l : w < p.crew) (a : Answer) (is : (turn_call M p u w).reply ≡ Answered a) where
+  module _ (p : Phase) (u : List ℕ) (h : From M k m ab t os p u) (w : ℕ) (l : w < p.crew) (a : Answer) (is : (turn_call M p u w).reply ≡ Ok a) where
     abbrev before : History
     before = after M k m ab t os h.calls
 

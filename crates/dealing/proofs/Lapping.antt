@@ -1,4 +1,5 @@
 -- A lap in code: one worker after the other takes its turn by itself, and the record is not tested.
+use Rattle.std.specs.Prelude.{Option}
 use mathlib.Core.Path.{◌≡◌, refl, sym, ap, ◌∙◌}
 use mathlib.Core.Bool.{true, false}
 use mathlib.Core.List.{List}
@@ -20,7 +21,7 @@ use Rattle.protocol.specs.Split.{one_turn, one_cells}
 use Rattle.protocol.specs.declared.Moved.{Moved}
 use Rattle.protocol.proofs.Turning.{turn-by-one}
 use Rattle.protocol.proofs.WellFormed.{good-worker}
-use Rattle.dealing.specs.declared.Finish.{Finish}
+use Rattle.dealing.specs.declared.Ended.{Ended}
 use Rattle.dealing.specs.Reached.{From, Reached}
 use Rattle.dealing.specs.Deal.{Dealing, unfinished, finish_after, deal_to, deal, lap}
 use Rattle.dealing.proofs.Reached.{formed, sized, crew, few-workers, accepts}
@@ -117,7 +118,7 @@ module _ (M : Model) (proper : Proper M) where
           }
 
       -- the same with what the code has found
-      pub lap-next : w < count → (moved : Moved) (u : List ℕ) (f : Finish)
+      pub lap-next : w < count → (moved : Moved) (u : List ℕ) (f : Option Ended)
           → let p = d.dealt.phase in
           let worker = get_or p.workers w idle in
           moved ≡ one_turn M p.kind p.hash p.length d.table worker → u ≡ one_cells M p.kind p.hash p.length d.table worker
@@ -131,32 +132,12 @@ module _ (M : Model) (proper : Proper M) where
           → let p = d.dealt.phase in
           let worker = get_or p.workers w idle in
           moved ≡ one_turn M p.kind p.hash p.length d.table worker → u ≡ one_cells M p.kind p.hash p.length d.table worker
-          → ((f : Finish) → finish_after f moved.reply ≡ f)
+          → ((f : Option Ended) → finish_after f moved.reply ≡ f)
           → Lapping M d₀ count (record { dealt = record { phase = with_worker p w moved.worker.activity; finishes = d.dealt.finishes }; table = u }) (w + 1)
       lap-keeps l moved u a b k =
           let before = get_or d.dealt.finishes w unfinished in
           let same : set d.dealt.finishes w before ≡ d.dealt.finishes = set-get_or d.dealt.finishes w unfinished in
           rw same at (lap-next l moved u before a b (sym (k before)))
-
-      -- the same in a find phase, which leaves the table as it is
-      module _ (l : w < count) (moved : Moved) (k : d.dealt.phase.kind ≡ 3)
-          (a : let p = d.dealt.phase in moved ≡ one_turn M 3 p.hash p.length d.table (get_or p.workers w idle))
-          (b : let p = d.dealt.phase in d.table ≡ one_cells M 3 p.hash p.length d.table (get_or p.workers w idle)) where
-        found : let p = d.dealt.phase in moved ≡ one_turn M p.kind p.hash p.length d.table (get_or p.workers w idle)
-        found = let p = d.dealt.phase in a ∙ ap (λ (x : ℕ). one_turn M x p.hash p.length d.table (get_or p.workers w idle)) (sym k)
-
-        unchanged : let p = d.dealt.phase in d.table ≡ one_cells M p.kind p.hash p.length d.table (get_or p.workers w idle)
-        unchanged = let p = d.dealt.phase in b ∙ ap (λ (x : ℕ). one_cells M x p.hash p.length d.table (get_or p.workers w idle)) (sym k)
-
-        pub found-next : (f : Finish) → f ≡ finish_after (get_or d.dealt.finishes w unfinished) moved.reply
-            → Lapping M d₀ count
-            (record { dealt = record { phase = with_worker d.dealt.phase w moved.worker.activity; finishes = set d.dealt.finishes w f }; table = d.table }) (w + 1)
-        found-next f e = lap-next l moved d.table f found unchanged e
-
-        pub found-keeps : ((f : Finish) → finish_after f moved.reply ≡ f)
-            → Lapping M d₀ count
-            (record { dealt = record { phase = with_worker d.dealt.phase w moved.worker.activity; finishes = d.dealt.finishes }; table = d.table }) (w + 1)
-        found-keeps e = lap-keeps l moved d.table found unchanged e
 
       -- the same with a worker that the code passes over
       pub lap-skips : w < count → is_idle (doing d.dealt.phase w) ≡ true → Lapping M d₀ count d (w + 1)
@@ -183,14 +164,6 @@ module _ (M : Model) (proper : Proper M) where
             good-worker M p good w (omega arith),
             sized M proper g.reached.kind g.reached.crew g.reached.hash g.reached.opened g.list p d.table here.from,
           )
-
-      pub found-good : w < count → d.dealt.phase.kind ≡ 3
-          → let p = d.dealt.phase in
-          (activity_ok 3 p.length label (doing p w) ≡ true) × (p.length ≡ length d.table)
-      found-good l k =
-          let p = d.dealt.phase in
-          let good = lap-good l in
-          (ap (λ (x : ℕ). activity_ok x p.length label (doing p w)) (sym k) ∙ good.0, good.1)
 
       pub lap-ends : count ≤ w → d ≡ lap M d₀
       lap-ends l = let e : w ≡ d₀.dealt.phase.crew = omega (arith, g.all, g.within) in g.same ∙ ap (λ x. deal M x d₀) e

@@ -1,4 +1,5 @@
 -- What holds of a phase state and a table that calls lead to, and that further calls lead on.
+use Rattle.std.specs.Prelude.{Ok}
 use mathlib.Core.Path.{◌≡◌, sym, ◌∙◌}
 use mathlib.Core.Bool.{true, false}
 use mathlib.Core.List.{List, [], ◌∷◌, ◌++◌}
@@ -25,7 +26,6 @@ use Rattle.history.proofs.Theorem.{history as all-lists}
 use Rattle.protocol.proofs.Theorem.{OpenPassed, open-passed}
 use Rattle.state.specs.Model.{Model, Proper}
 use Rattle.state.specs.declared.Phase.{Phase}
-use Rattle.state.specs.declared.Reply.TheVariants.{Accepted}
 use Rattle.protocol.specs.Calls.{asked, entry_for, order_call, turn_check, turn_call, turn_table}
 use Rattle.protocol.specs.IsWellFormed.{is_well_formed}
 use Rattle.dealing.specs.Reached.{From}
@@ -93,7 +93,7 @@ module _ (M : Model) (proper : Proper M) where
     pub sized : p.length ≡ length u
     sized = rw h.table (cells ∙ sym claim.numbers.sized)
 
-    pub accepts : (w : ℕ) → p.shut ≡ false → w < p.crew → turn_check M p u w ≡ Accepted
+    pub accepts : (w : ℕ) → p.shut ≡ false → w < p.crew → turn_check M p u w ≡ Ok tt
     accepts w up l = simp (formed, up, eq-eqb _ _ sized, lt-leb _ _ l)
 
     -- ---- what one more call leaves

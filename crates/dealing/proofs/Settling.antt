@@ -1,4 +1,5 @@
 -- A run comes to its end: its turns are the steps of laps of events, after enough of which all workers are idle.
+use Rattle.std.specs.Prelude.{Option, ℕ, Some, None, Ok}
 use mathlib.Core.Path.{◌≡◌, refl, sym, ◌∙◌, subst, ap}
 use mathlib.Core.Logic.{◌⊎◌, inl, inr}
 use mathlib.Core.Bool.{true, false}
@@ -24,13 +25,10 @@ use Rattle.protocol.specs.WellFormed.{Kind}
 use Rattle.protocol.proofs.Chain.{by-reply}
 use Rattle.protocol.proofs.Theorem.{turns}
 use Rattle.protocol.proofs.WellFormed.{all-idle-says}
-use Rattle.state.specs.declared.Reply.{Reply}
+use Rattle.state.specs.Replies.{Reply}
 use Rattle.history.proofs.Simulation.{Shows, turn-shows}
 use Rattle.state.specs.Model.{Model, Proper}
 use Rattle.state.specs.declared.Phase.{Phase}
-use Rattle.state.specs.declared.Reply.TheVariants.{Accepted}
-use Rattle.rule.specs.declared.Place.{Place}
-use Rattle.rule.specs.declared.Place.TheVariants.{Nowhere, At}
 use Rattle.rule.specs.Rule.{touched}
 use Rattle.protocol.specs.Bars.{doing}
 use Rattle.protocol.specs.Calls.{cells_at, turned_cells, turn_check, turn_call, turn_table}
@@ -87,7 +85,7 @@ module _ (M : Model) (proper : Proper M) where
     deal-to-follows w d r f l =
         let p = d.dealt.phase in
         let h = f.opened.from in
-        let ok : turn_check M f.history.phase f.history.table w ≡ Accepted =
+        let ok : turn_check M f.history.phase f.history.table w ≡ (Ok tt) =
         rw (f.phase, f.table) at (accepts M proper k m ab t os p d.table h w f.opened.running (omega (arith, crew M proper k m ab t os p d.table h))) in
         record {
           opened = deal-to-opened w d f.opened;
@@ -208,9 +206,9 @@ module _ (M : Model) (proper : Proper M) where
       }
 
   -- ---- a run keeps the table's length
-  moved_length : (p : Phase) (t : List ℕ) (w : ℕ) (q : Place) → length (cells_at M p t w q) ≡ length t
-  moved_length p t w Nowhere = refl
-  moved_length p t w (At c) = length-set t c _
+  moved_length : (p : Phase) (t : List ℕ) (w : ℕ) (q : Option ℕ) → length (cells_at M p t w q) ≡ length t
+  moved_length p t w None = refl
+  moved_length p t w (Some c) = length-set t c _
 
   pub turn-length : (p : Phase) (t : List ℕ) (w : ℕ) → length (turn_table M p t w) ≡ length t
   turn-length p t w =

@@ -1,4 +1,5 @@
 -- The promise on what a turn tells.
+use Rattle.std.specs.Prelude.{Some, None, Ok, Err}
 use mathlib.Core.Path.{◌≡◌, refl, sym, ap, ◌∙◌, subst}
 use mathlib.Core.List.{List}
 use Prim.Native.Nat.{ℕ, ◌<◌}
@@ -11,35 +12,32 @@ use Rattle.rule.specs.declared.Answer.TheVariants.{Price, No}
 use Rattle.phases.specs.Promise.{Sold}
 use Rattle.state.specs.Model.{Model}
 use Rattle.state.specs.declared.Phase.{Phase}
-use Rattle.state.specs.declared.Reply.{Reply}
-use Rattle.state.specs.declared.Reply.TheVariants.{Accepted, Refused}
+use Rattle.state.specs.Replies.{Reply}
 use Rattle.protocol.specs.Bars.{doing}
 use Rattle.protocol.specs.Calls.{turned, turn_check, turn_call}
-use Rattle.protocol.specs.declared.TurnReply.TheVariants.{Answered}
 use Rattle.protocol.proofs.Chain.{by-reply}
 use Rattle.protocol.proofs.Theorem.{turn-passed}
 use Rattle.history.proofs.Theorem.{history as all-lists}
 use Rattle.dealing.specs.Deal.{unfinished, finish_by}
 use Rattle.dealing.specs.Promise.{TellsPromise}
 use Rattle.dealing.specs.declared.Ended.TheVariants as ended
-use Rattle.dealing.specs.declared.Finish.{Finish}
 use Rattle.dealing.proofs.Answers.{Ends, Moves, goes, ends, turn-moves}
 
 -- ---- an answer that is final ends an operation
 module _ {k : ℕ} {t : List ℕ} {now next : Activity} where
-  price-ends : (q : ℕ) → Moves k t now next (Price q) → Ends k t (entry_of now) (finish_by unfinished (Price q)).ended
-  price-ends q (goes same key stays) = let e : ended.Price q ≡ ended.Nothing = ap (λ (f : Finish). f.ended) (stays unfinished) in
+  price-ends : (q : ℕ) → Moves k t now next (Price q) → Ends k t (entry_of now) (finish_by unfinished (Price q))
+  price-ends q (goes same key stays) = let e : Some (ended.Price q) ≡ None = stays unfinished in
       absurd (let z : ◌≡◌ {A = ℕ} 0 1 = cc in omega arith)
   price-ends q (ends busy free fin) = fin unfinished
 
-  no-ends : Moves k t now next No → Ends k t (entry_of now) (finish_by unfinished No).ended
-  no-ends (goes same key stays) = let e : ended.No ≡ ended.Nothing = ap (λ (f : Finish). f.ended) (stays unfinished) in absurd (let z : ◌≡◌ {A = ℕ} 0 1 = cc in omega arith)
+  no-ends : Moves k t now next No → Ends k t (entry_of now) (finish_by unfinished No)
+  no-ends (goes same key stays) = let e : Some ended.No ≡ None = stays unfinished in absurd (let z : ◌≡◌ {A = ℕ} 0 1 = cc in omega arith)
   no-ends (ends busy free fin) = fin unfinished
 
 -- a turn that is answered is not refused
-accepted : (M : Model) (p : Phase) (t : List ℕ) (w : ℕ) (a : Answer) → (turn_call M p t w).reply ≡ Answered a → turn_check M p t w ≡ Accepted
+accepted : (M : Model) (p : Phase) (t : List ℕ) (w : ℕ) (a : Answer) → (turn_call M p t w).reply ≡ Ok a → turn_check M p t w ≡ Ok tt
 accepted M p t w a e = by-reply (turn_check M p t w) (λ ok. ok)
-    (λ r no. let f : (turned M p t w (Refused r)).reply ≡ Answered a = sym (ap (λ (x : Reply). (turned M p t w x).reply) no) ∙ e in
+    (λ r no. let f : (turned M p t w (Err r)).reply ≡ Ok a = sym (ap (λ (x : Reply). (turned M p t w x).reply) no) ∙ e in
     absurd (let z : ◌≡◌ {A = ℕ} 0 1 = cc in omega arith))
 
 pub tells-promise : TellsPromise

@@ -1,4 +1,5 @@
 -- The promise on the line `run`.
+use Rattle.std.specs.Prelude.{Some}
 use mathlib.Core.Path.{◌≡◌, refl, sym, ◌∙◌, subst}
 use mathlib.Core.Logic.{◌≢◌, ◌↔◌}
 use mathlib.Core.Bool.{false}
@@ -42,7 +43,7 @@ run-promise M proper os p u h up =
       answered = λ w b find. ends-answered k t _ _ (ends w b) (sym is ∙ find);
       right = λ w b find q.
           let same = (all-lists M proper k h.crew h.hash t os h.by.accepted h.by.calls).unchanged (sym is ∙ find) in
-          subst (λ x. (finish_of d w ≡ Price q) ↔ Sold label x (label (entry_of (doing p w))) q) (sym (h.by.table ∙ same)) (ends-right k t _ _ (ends w b) (sym is ∙ find) q);
+          subst (λ x. (finish_of d w ≡ Some (Price q)) ↔ Sold label x (label (entry_of (doing p w))) q) (sym (h.by.table ∙ same)) (ends-right k t _ _ (ends w b) (sym is ∙ find) q);
       places = s.places;
       dealt = (r, λ lent x a b. turns lent x (sym a, sym b));
       reached = λ lent led. run-reached M proper lent p u led up;

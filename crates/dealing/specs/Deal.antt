@@ -1,5 +1,5 @@
 -- The line `run`: turns dealt to workers 0, 1 and so on, one lap after the other, until all are idle.
-use Rattle.std.specs.Prelude.{cond, List, ℕ, zero, suc, get_or, set, replicate}
+use Rattle.std.specs.Prelude.{cond, List, ℕ, zero, suc, get_or, set, replicate, Option, Some, None, Ok, Err}
 use Rattle.rule.specs.declared.Answer.{Answer}
 use Rattle.rule.specs.declared.Answer.TheVariants.{WentOn, Finished, Price, No}
 use Rattle.rule.specs.declared.Answer.TheVariants as answer
@@ -8,27 +8,25 @@ use Rattle.state.specs.Model.{Model}
 use Rattle.state.specs.declared.Phase.{Phase}
 use Rattle.protocol.specs.Bars.{all_idle}
 use Rattle.protocol.specs.Calls.{turn_call, turn_table}
-use Rattle.protocol.specs.declared.TurnReply.{TurnReply}
-use Rattle.protocol.specs.declared.TurnReply.TheVariants.{Answered, Refused}
+use Rattle.protocol.specs.Replies.{TurnReply}
 use Rattle.dealing.specs.declared.Dealt.{Dealt}
 use Rattle.dealing.specs.declared.Ended.{Ended}
-use Rattle.dealing.specs.declared.Finish.{Finish}
 
 -- no operation of the worker has ended
-abbrev pub unfinished : Finish
-unfinished = record { ended = Ended.Nothing }
+abbrev pub unfinished : Option Ended
+unfinished = None
 
 -- how the worker's operation ended, after a turn's answer
-abbrev pub finish_by : Finish → Answer → Finish
+abbrev pub finish_by : Option Ended → Answer → Option Ended
 finish_by f WentOn = f
-finish_by f Finished = record { ended = Ended.Finished }
-finish_by f (Price q) = record { ended = Ended.Price q }
-finish_by f No = record { ended = Ended.No }
+finish_by f Finished = Some Ended.Finished
+finish_by f (Price q) = Some (Ended.Price q)
+finish_by f No = Some Ended.No
 finish_by f answer.Idle = f
 
-abbrev pub finish_after : Finish → TurnReply → Finish
-finish_after f (Answered a) = finish_by f a
-finish_after f (Refused r) = f
+abbrev pub finish_after : Option Ended → TurnReply → Option Ended
+finish_after f (Ok a) = finish_by f a
+finish_after f (Err r) = f
 
 -- a phase with how the operations of its workers ended, and the table
 pub record Dealing : Type 0 where

@@ -1,5 +1,5 @@
 -- What is promised of the line `run`, in document 01's words and without the definition's parts. Proved in proofs/Theorem.
-use Rattle.std.specs.Prelude.{◌≡◌, ◌≢◌, ◌↔◌, ◌⊎◌, true, false, List, [], ◌∷◌, ℕ, zero, suc, length, get_or}
+use Rattle.std.specs.Prelude.{◌≡◌, ◌≢◌, ◌↔◌, ◌⊎◌, true, false, List, [], ◌∷◌, ℕ, zero, suc, length, get_or, Option, Some, None, Ok}
 use Rattle.prices.specs.Contents.{label}
 use Rattle.orders.specs.declared.Order.{Order}
 use Rattle.activities.specs.Activities.{entry_of}
@@ -12,7 +12,6 @@ use Rattle.state.specs.declared.Phase.{Phase}
 use Rattle.protocol.specs.Bars.{doing, all_idle}
 use Rattle.protocol.specs.Calls.{turn_call}
 use Rattle.protocol.specs.Promise.{Framed}
-use Rattle.protocol.specs.declared.TurnReply.TheVariants.{Answered}
 use Rattle.history.specs.History as history
 use Rattle.history.specs.History.{Call, turn, History}
 use Rattle.dealing.specs.Reached.{Reached}
@@ -29,8 +28,8 @@ rounds m zero = []
 rounds m (suc r) = round m (rounds m r)
 
 -- the finish of worker w
-abbrev pub finish_of : Dealing → ℕ → Ended
-finish_of d w = (get_or d.dealt.finishes w unfinished).ended
+abbrev pub finish_of : Dealing → ℕ → Option Ended
+finish_of d w = get_or d.dealt.finishes w unfinished
 
 -- ---- d is what a run leaves that begins with the phase p and the table t
 pub record Runs (M : Model) (p : Phase) (t : List ℕ) (d : Dealing) : Type 0 where
@@ -38,11 +37,11 @@ pub record Runs (M : Model) (p : Phase) (t : List ℕ) (d : Dealing) : Type 0 wh
   pub idle : (w : ℕ) → doing d.dealt.phase w ≡ Idle
   pub idle_all : all_idle d.dealt.phase.workers ≡ true
   -- one field per worker: `-` (nothing) exactly if idle before
-  pub none : (w : ℕ) → (finish_of d w ≡ Ended.Nothing) ↔ (doing p w ≡ Idle)
+  pub none : (w : ℕ) → (finish_of d w ≡ None) ↔ (doing p w ≡ Idle)
   -- else its finish: finished; in a find phase a price or no, and a price exactly if its key stands in the table at that price
-  pub finished : (w : ℕ) → doing p w ≢ Idle → p.kind ≢ 3 → finish_of d w ≡ Ended.Finished
-  pub answered : (w : ℕ) → doing p w ≢ Idle → p.kind ≡ 3 → ((q : ℕ) × (finish_of d w ≡ Ended.Price q)) ⊎ (finish_of d w ≡ Ended.No)
-  pub right : (w : ℕ) → doing p w ≢ Idle → p.kind ≡ 3 → (q : ℕ) → (finish_of d w ≡ Ended.Price q) ↔ Sold label t (label (entry_of (doing p w))) q
+  pub finished : (w : ℕ) → doing p w ≢ Idle → p.kind ≢ 3 → finish_of d w ≡ Some Ended.Finished
+  pub answered : (w : ℕ) → doing p w ≢ Idle → p.kind ≡ 3 → ((q : ℕ) × (finish_of d w ≡ Some (Ended.Price q))) ⊎ (finish_of d w ≡ Some Ended.No)
+  pub right : (w : ℕ) → doing p w ≢ Idle → p.kind ≡ 3 → (q : ℕ) → (finish_of d w ≡ Some (Ended.Price q)) ↔ Sold label t (label (entry_of (doing p w))) q
   pub places : length d.dealt.finishes ≡ M.room
   -- by turns alone, in rounds of all workers, whatever list is lent
   pub dealt : (r : ℕ) × ((os : List Order) (s : History) → s.phase ≡ p → s.table ≡ t
@@ -65,7 +64,7 @@ pub record Tells (p : Phase) (t : List ℕ) (w : ℕ) (a : Answer) : Type 0 wher
 
 abbrev pub TellsPromise : Type 0
 TellsPromise = (M : Model) → Proper M → (os : List Order) (p : Phase) (t : List ℕ) → Reached M os p t → p.shut ≡ false → (w : ℕ) (a : Answer)
-    → (turn_call M p t w).reply ≡ Answered a → Tells p t w a
+    → (turn_call M p t w).reply ≡ Ok a → Tells p t w a
 
 -- ---- a lap is one turn call of each worker, 0, 1 and so on. (What a run leaves does not show in which order its turns were dealt.)
 abbrev pub LapPromise : Type 0

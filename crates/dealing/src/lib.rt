@@ -1,83 +1,72 @@
 // The line `run`: turns dealt to the workers one lap after the other, until all are idle.
 #![tactic(auto)]
 
-ghost use Rattle.std.specs.Prelude.{◌≡◌, true, false, replicate};
+ghost use Rattle.std.specs.Prelude.{◌≡◌, true, false, length, replicate, Option, Some, MatchOption};
+ghost use Rattle.prices.specs.Contents.{label};
+ghost use Rattle.activities.specs.Activities.{activity_ok};
 ghost use Rattle.state.specs.Model.{gateway};
+ghost use Rattle.protocol.specs.Split.{one_turn, one_cells};
 ghost use Rattle.dealing.specs.Reached.{Led};
 ghost use Rattle.dealing.specs.Deal;
 ghost use Rattle.dealing.specs.Deal.{Dealing, unfinished, finish_after};
-ghost use Rattle.dealing.specs.declared.Finish.{Finish};
+ghost use Rattle.dealing.specs.declared.Ended.{Ended};
 ghost use Rattle.dealing.specs.Promise.{Runs};
 
-use protocol::TurnReply;
+use activities::Worker;
+use calls::{one_find, one_turn};
+use formed::{all_idle, is_idle};
+use homes::Hash;
+use protocol::Moved;
 use rule::Answer;
-use state::Phase;
+use state::{Phase, Refusal};
 
 // How an operation ended.
 #[derive(Clone, Copy)]
 pub enum Ended {
-    Nothing,
     Finished,
     // A look-up, with the price that it found.
     Price(u32),
     No,
 }
 
-// How a worker's operation ended; `Nothing` where none has ended.
-#[derive(Clone, Copy)]
-pub struct Finish {
-    pub ended: Ended,
-}
-
-// A phase with how the operations of its workers ended.
+// A phase with how the operations of its workers ended, of those whose have.
 #[derive(Clone, Copy)]
 pub struct Dealt {
     pub phase: Phase,
-    pub finishes: [Finish; Phase::ROOM],
+    pub finishes: [Option<Ended>; Phase::ROOM],
 }
 
-pub fn no_finishes() -> [Finish; Phase::ROOM]
+pub fn no_finishes() -> [Option<Ended>; Phase::ROOM]
     ensures { result ≡ replicate gateway.room unfinished }
 {
-    [Finish {
-        ended: Ended::Nothing,
-    }; Phase::ROOM]
+    [None; Phase::ROOM]
 }
 
-// How a worker's operation ended, after one more turn.
-fn finish_after(before: Finish, reply: TurnReply) -> Finish
-    ensures { result ≡ finish_after before reply }
+// How a turn with this reply ended the worker's operation, if it did: else it leaves the worker's finish as it was.
+fn ended_by(reply: Result<Answer, Refusal>) -> Option<Ended>
+    ensures { MatchOption result ((f : Option Ended) → finish_after f reply ≡ f) (λ e. (f : Option Ended) → finish_after f reply ≡ Some e) }
 {
-    let TurnReply::Answered(answer) = reply else {
-        return before;
-    };
-    match answer {
-        Answer::WentOn => before,
-        Answer::Finished => Finish {
-            ended: Ended::Finished,
-        },
-        Answer::Price(price) => Finish {
-            ended: Ended::Price(price),
-        },
-        Answer::No => Finish { ended: Ended::No },
-        Answer::Idle => before,
+    match reply {
+        Ok(Answer::Finished) => Some(Ended::Finished),
+        Ok(Answer::Price(price)) => Some(Ended::Price(price)),
+        Ok(Answer::No) => Some(Ended::No),
+        _ => None,
     }
 }
 
-// Whether this reply leaves it as it was.
-fn is_kept(reply: TurnReply) -> bool
-    ensures { result ≡ true → (f : Finish) → finish_after f reply ≡ f }
+// The kind of a find phase.
+const FIND: u32 = 3;
+
+// The turn of a worker that its phase may have, on a table as long as its phase says. That of a find is shorter.
+fn turn_of(kind: u32, hash: Hash, size: u32, cells: &mut [u64], worker: Worker) -> Moved
+    requires { (activity_ok kind size label worker.activity ≡ true) × (size ≡ length cells.old) }
+    ensures { (result ≡ one_turn gateway kind hash size cells.old worker)
+        × (cells.new ≡ one_cells gateway kind hash size cells.old worker) }
 {
-    let TurnReply::Answered(answer) = reply else {
-        return true;
-    };
-    match answer {
-        Answer::WentOn => true,
-        Answer::Finished => false,
-        Answer::Price(..) => false,
-        Answer::No => false,
-        Answer::Idle => true,
+    if kind == FIND {
+        return one_find(size, cells, worker);
     }
+    one_turn(kind, hash, size, cells, worker)
 }
 
 // Turns in an open phase until all workers are idle. The record is not tested: calls have led to it. A worker that is idle is passed over: its
@@ -90,50 +79,18 @@ pub fn run(mut phase: Phase, cells: &mut [u64]) -> Dealt
 {
     let mut finishes = no_finishes();
     let count = phase.crew as usize;
-    loop {
-        let workers = phase.workers;
-        if formed::all_idle(workers) {
-            return Dealt { phase, finishes };
-        }
-        let mut w: usize = 0;
-        while w < count {
+    'laps: while !all_idle(&phase.workers) {
+        for w in 0..count {
             let worker = phase.workers[w];
-            let activity = worker.activity;
-            if formed::is_idle(activity) {
-                w += 1;
+            if is_idle(worker.activity) {
                 continue;
             }
-            if phase.kind == 3 {
-                let found = calls::one_find(phase.length, cells, phase.workers[w]);
-                let read = found.worker;
-                let told = found.reply;
-                phase.workers[w] = read;
-                if is_kept(told) {
-                    w += 1;
-                    continue;
-                }
-                let so_far = finishes[w];
-                finishes[w] = finish_after(so_far, told);
-                w += 1;
-                continue;
+            let moved = turn_of(phase.kind, phase.hash, phase.length, cells, worker);
+            phase.workers[w] = moved.worker;
+            if let Some(ended) = ended_by(moved.reply) {
+                finishes[w] = Some(ended);
             }
-            let moved = calls::one_turn(
-                phase.kind,
-                phase.hash,
-                phase.length,
-                cells,
-                phase.workers[w],
-            );
-            let next = moved.worker;
-            let reply = moved.reply;
-            phase.workers[w] = next;
-            if is_kept(reply) {
-                w += 1;
-                continue;
-            }
-            let before = finishes[w];
-            finishes[w] = finish_after(before, reply);
-            w += 1;
         }
     }
+    Dealt { phase, finishes }
 }

@@ -1,4 +1,5 @@
 -- The corollaries, each by its promises. Premises are computed, outputs are not.
+use Rattle.std.specs.Prelude.{Ok, Err}
 use mathlib.Core.Path.{◌≡◌, refl, sym, ap, ◌∙◌, subst}
 use mathlib.Core.Logic.{◌≢◌, inl, inr, ⊎_elim}
 use mathlib.Core.Bool.{Bool, true, false, ◌||◌}
@@ -21,18 +22,16 @@ use Rattle.state.specs.Model.{gateway}
 use Rattle.state.specs.Open.{open_call}
 use Rattle.state.specs.declared.Refusal.TheVariants.{Size, Full, NoLine, Even}
 use Rattle.state.specs.declared.Replied.{Replied}
-use Rattle.state.specs.declared.Reply.TheVariants.{Accepted, Refused}
 use Rattle.words.specs.Words.{entries_of}
 use Rattle.tables.specs.Calls.{check_call}
 use Rattle.protocol.specs.Calls.{close_call, order_call, turn_call}
 use Rattle.protocol.specs.IsWellFormed.{is_well_formed}
-use Rattle.protocol.specs.declared.TurnReply.TheVariants.{Answered}
 use Rattle.text.specs.Bytes.{same, byte_at, bytes_of}
 use Rattle.text.specs.Digits.{digits_within, digits_of}
 use Rattle.text.specs.Fields.{fields_of}
 use Rattle.text.specs.Numbers.{digits, leads, value_from, is_number}
 use Rattle.text.proofs.Test.{by-test}
-use Rattle.lines.specs.Grammar.{command_in, are_numbers, numbers_of, reading_of, longest_line, kept_bytes}
+use Rattle.lines.specs.Grammar.{command_of, are_numbers, numbers_of, reading_of, longest_line, kept_bytes}
 use Rattle.dealing.specs.Deal.{Dealing, deal_to, deal, laps, run}
 use Rattle.sheet.specs.Promise.{line, FirstIs, Unreadable, workers_text, finish_text, list_text, state_with, Bad, InShut, InOpen}
 use Rattle.sheet.specs.Valid.{Valid}
@@ -184,7 +183,7 @@ cells-lead : Leads cells_lines with_cells (bytes_of "1\tok\n")
 unfolding bytes_of digits_of digits_within
 cells-lead = more [] blank [] none (cells_line 5) plains.cells.0 _ refl (before.cells 5 (omega arith) (omega arith)) (bytes_of "1\tok\n") refl
 
-check-passes : check_call gateway plain (replicate 5 0) ≡ Accepted
+check-passes : check_call gateway plain (replicate 5 0) ≡ Ok tt
 unfolding meets_empty meets_key first all some dist probe wrap
 check-passes = refl
 
@@ -198,7 +197,7 @@ open_state = state_with (open_call gateway 1 2 plain (replicate 5 0) []).phase (
 abbrev open_out : List ℕ
 open_out = bytes_of "1\tok\n2\tok\n"
 
-open-accepted : ((open_call gateway 1 2 plain (replicate 5 0) []).reply ≡ Accepted) × (open_state.phase.kind ≡ 1) × (open_state.phase.shut ≡ false)
+open-accepted : ((open_call gateway 1 2 plain (replicate 5 0) []).reply ≡ Ok tt) × (open_state.phase.kind ≡ 1) × (open_state.phase.shut ≡ false)
 unfolding meets_empty meets_key first all some dist probe wrap line_fault lines_fault into descending
 open-accepted = (refl, refl, refl)
 
@@ -210,7 +209,7 @@ open-lead = more cells_lines with_cells _ cells-lead (open_line 1 2) plains.open
 running : InOpen open_state
 running = sheet-promise.opened open_state open-accepted.2
 
-worker-idle : (turn_call gateway open_state.phase (replicate 5 0) 1).reply ≡ Answered Idle
+worker-idle : (turn_call gateway open_state.phase (replicate 5 0) 1).reply ≡ Ok Idle
 unfolding is_well_formed meets_empty meets_key first all some dist probe wrap count line_fault lines_fault into descending
 worker-idle = refl
 
@@ -228,7 +227,7 @@ spread-plain : Plain (spread_line 3 1) × Plain (spread_line 2 0)
 unfolding byte_at bytes_of digits_of digits_within
 spread-plain = (refl, refl)
 
-spread-accepted : ((open_call gateway 3 1 (hash_of 3 1) (replicate 5 0) []).reply ≡ Accepted) × (check_call gateway spread_state.phase.hash (replicate 5 0) ≡ Accepted)
+spread-accepted : ((open_call gateway 3 1 (hash_of 3 1) (replicate 5 0) []).reply ≡ Ok tt) × (check_call gateway spread_state.phase.hash (replicate 5 0) ≡ Ok tt)
 unfolding meets_empty meets_key first all some dist probe wrap
 spread-accepted = (refl, refl)
 
@@ -277,7 +276,7 @@ start_state = state_with (open_call gateway 1 2 plain (replicate 5 0) items).pha
 abbrev start_out : List ℕ
 start_out = bytes_of "1\tok\n2\tok\n3\tok\n4\tok\n"
 
-start-accepted : ((open_call gateway 1 2 plain (replicate 5 0) items).reply ≡ Accepted) × (start_state.phase.kind ≡ 1) × (start_state.phase.shut ≡ false)
+start-accepted : ((open_call gateway 1 2 plain (replicate 5 0) items).reply ≡ Ok tt) × (start_state.phase.kind ≡ 1) × (start_state.phase.shut ≡ false)
 unfolding meets_empty meets_key first all some dist probe wrap line_fault lines_fault into descending
 start-accepted = (refl, refl, refl)
 
@@ -290,7 +289,7 @@ starting : InOpen start_state
 starting = sheet-promise.opened start_state start-accepted.2
 
 -- a place past the list
-past-refused : (order_call gateway start_state.phase items 2 0 0).reply ≡ Refused NoLine
+past-refused : (order_call gateway start_state.phase items 2 0 0).reply ≡ Err NoLine
 unfolding is_well_formed meets_empty meets_key first all some dist probe wrap count line_fault lines_fault into descending
 past-refused = refl
 
@@ -307,11 +306,11 @@ first_state = state_with placed.phase (replicate 5 0) items
 abbrev second_state : State
 second_state = state_with second.phase (replicate 5 0) items
 
-first-accepted : (placed.reply ≡ Accepted) × (placed.phase.kind ≡ 1) × (placed.phase.shut ≡ false)
+first-accepted : (placed.reply ≡ Ok tt) × (placed.phase.kind ≡ 1) × (placed.phase.shut ≡ false)
 unfolding is_well_formed meets_empty meets_key first all some dist probe wrap count line_fault lines_fault into descending
 first-accepted = (refl, refl, refl)
 
-second-accepted : (second.reply ≡ Accepted) × (second.phase.shut ≡ false)
+second-accepted : (second.reply ≡ Ok tt) × (second.phase.shut ≡ false)
 unfolding is_well_formed meets_empty meets_key first all some dist probe wrap count line_fault lines_fault into descending
 second-accepted = (refl, refl)
 
@@ -368,13 +367,13 @@ closed_lines = ran_lines ++ close_line ∷ []
 abbrev closed_out : List ℕ
 closed_out = bytes_of "1\tok\n2\tok\n3\tok\n4\tok\n5\tok\n6\tok\n7\tdone\tdone\n8\tok\n"
 
-close-accepted : (closed.reply ≡ Accepted) × (closed.phase.shut ≡ true) × (ran.dealt.phase.kind ≡ 1)
+close-accepted : (closed.reply ≡ Ok tt) × (closed.phase.shut ≡ true) × (ran.dealt.phase.kind ≡ 1)
 unfolding
     laps deal deal_to is_well_formed rule settled absorbed insert_step meets_empty meets_key first all some dist probe wrap count line_fault lines_fault into descending
 close-accepted = (refl, refl, refl)
 
 -- the table, each label with its price, is sound
-table-told : (check_call gateway closed_state.phase.hash ran.table ≡ Accepted) × (list_text (entries_of ran.table) ≡ bytes_of "\t2\t8\t15\t3\t20")
+table-told : (check_call gateway closed_state.phase.hash ran.table ≡ Ok tt) × (list_text (entries_of ran.table) ≡ bytes_of "\t2\t8\t15\t3\t20")
 unfolding
     bytes_of digits_of digits_within laps deal deal_to is_well_formed rule settled absorbed insert_step meets_empty meets_key first all some dist probe wrap count
     line_fault lines_fault into descending
@@ -392,7 +391,7 @@ next_state = state_with (open_call gateway 1 2 plain ran.table []).phase ran.tab
 abbrev next_lines : List (List ℕ)
 next_lines = closed_lines ++ open_line 1 2 ∷ []
 
-next-opens : ((open_call gateway 1 2 plain ran.table []).reply ≡ Accepted) × (next_state.phase.shut ≡ false) × (next_state.phase.kind ≡ 1)
+next-opens : ((open_call gateway 1 2 plain ran.table []).reply ≡ Ok tt) × (next_state.phase.shut ≡ false) × (next_state.phase.kind ≡ 1)
 unfolding
     laps deal deal_to is_well_formed rule settled absorbed insert_step meets_empty meets_key first all some dist probe wrap count line_fault lines_fault into descending
 next-opens = (refl, refl, refl)
@@ -402,7 +401,7 @@ unfolding bytes_of digits_of digits_within
 next-lead = more closed_lines closed_state _ closed-lead (open_line 1 2) plains.opens.0 _ refl
     ((sheet-promise.shut closed_state close-accepted.1).opening 1 2 1 0 (omega arith) (omega arith) (omega arith) (omega arith) next-opens.0) (bytes_of "9\tok\n") (rw next-opens.0 refl)
 
-none_left : (order_call gateway next_state.phase [] 0 0 0).reply ≡ Refused NoLine
+none_left : (order_call gateway next_state.phase [] 0 0 0).reply ≡ Err NoLine
 unfolding
     laps deal deal_to is_well_formed rule settled absorbed insert_step meets_empty meets_key first all some dist probe wrap count line_fault lines_fault into descending
 none_left = refl
@@ -417,7 +416,7 @@ find_lines = closed_lines ++ open_line 3 1 ∷ []
 abbrev find_out : List ℕ
 find_out = closed_out ++ bytes_of "9\tok\n"
 
-find-opens : ((open_call gateway 3 1 plain ran.table []).reply ≡ Accepted) × (find_state.phase.shut ≡ false) × (find_state.phase.kind ≡ 3)
+find-opens : ((open_call gateway 3 1 plain ran.table []).reply ≡ Ok tt) × (find_state.phase.shut ≡ false) × (find_state.phase.kind ≡ 3)
 unfolding
     laps deal deal_to is_well_formed rule settled absorbed insert_step meets_empty meets_key first all some dist probe wrap count line_fault lines_fault into descending
 find-opens = (refl, refl, refl)
@@ -442,7 +441,7 @@ wanted_state = state_with wanted.phase ran.table []
 abbrev wanted_lines : List (List ℕ)
 wanted_lines = find_lines ++ order_line 0 8 ∷ []
 
-wanted-accepted : (wanted.reply ≡ Accepted) × (wanted.phase.shut ≡ false)
+wanted-accepted : (wanted.reply ≡ Ok tt) × (wanted.phase.shut ≡ false)
 unfolding
     laps deal deal_to is_well_formed rule settled absorbed insert_step meets_empty meets_key first all some dist probe wrap count line_fault lines_fault into descending
 wanted-accepted = (refl, refl)
@@ -473,11 +472,11 @@ seek_state = state_with (open_call gateway 3 1 plain (replicate 5 0) items).phas
 abbrev sought_state : State
 sought_state = state_with (close_call gateway seek_state.phase).phase (replicate 5 0) items
 
-seek-opens : ((open_call gateway 3 1 plain (replicate 5 0) items).reply ≡ Accepted) × (seek_state.phase.kind ≡ 3)
+seek-opens : ((open_call gateway 3 1 plain (replicate 5 0) items).reply ≡ Ok tt) × (seek_state.phase.kind ≡ 3)
 unfolding meets_empty meets_key first all some dist probe wrap
 seek-opens = (refl, refl)
 
-seek-closes : ((close_call gateway seek_state.phase).reply ≡ Accepted) × (sought_state.phase.shut ≡ true)
+seek-closes : ((close_call gateway seek_state.phase).reply ≡ Ok tt) × (sought_state.phase.shut ≡ true)
 unfolding is_well_formed meets_empty meets_key first all some dist probe wrap count
 seek-closes = (refl, refl)
 
@@ -508,7 +507,7 @@ unfolding bytes_of digits_of digits_within
 small-lead = more sought_lines sought_state _ sought-lead (cells_line 2) plains.cells.2 _ refl
     ((sheet-promise.shut sought_state seek-closes.1).cells 2 (omega arith) (omega arith)) (bytes_of "7\tok\n") refl
 
-full : (open_call gateway 1 2 plain (replicate 2 0) items).reply ≡ Refused Full
+full : (open_call gateway 1 2 plain (replicate 2 0) items).reply ≡ Err Full
 unfolding meets_empty meets_key first all some dist probe wrap line_fault lines_fault into descending
 full = refl
 
@@ -563,7 +562,7 @@ zero-bad = before.unreadable zero_line zero-unreadable (not-order (bytes_of "ell
 
 zero_ended : (fed begin (bytes_of "cells\t05\n")).ended ≡ true
 unfolding
-    fed behind answer_of bytes_of reading_of command_in same numbers_of are_numbers is_number value_from leads digits fields_of kept_bytes longest_line
+    fed behind answer_of bytes_of reading_of command_of same numbers_of are_numbers is_number value_from leads digits fields_of kept_bytes longest_line
 zero_ended = refl
 
 -- ---- a number above the greatest

@@ -1,10 +1,8 @@
-// Whether the labels of a table and of a list of labels together, each counted once, are as many as the cells or more (document 02, point 2: refusal 9).
-// The keys (labels) met so far stand in a hash trie in a local array, so that no choice of labels makes the count slow: two different keys part within 32
-// links.
+// Keys (labels) counted once each (document 02, point 2: refusal 9). Those met so far stand in a hash trie in an array, so that no choice of keys makes the
+// count slow: two different keys part within 32 links.
 #![tactic(auto)]
 
-ghost use Rattle.std.specs.Prelude.{◌≡◌, ◌++◌, ◌<◌, ◌≤◌, leb, length};
-ghost use Rattle.layout.specs.Layout.{size};
+ghost use Rattle.std.specs.Prelude.{◌≡◌, ◌<◌, ◌≤◌};
 ghost use Rattle.prices.specs.Priced.{labels};
 ghost use Rattle.prices.specs.Contents.{label};
 ghost use Rattle.distinct.specs.Trie.{root_of, link_of, counted, marked, total, all_marked};
@@ -69,38 +67,9 @@ pub fn mark_cells(trie: &mut [u32; 40960], limit: usize, cells: &[u64]) -> usize
     ensures { (result ≡ total trie.old 0 limit (labels label cells.now))
         × (trie.new ≡ all_marked trie.old 0 limit (labels label cells.now)) }
 {
-    let mut count: usize = 0;
-    let mut i: usize = 0;
-    while i < cells.len() {
-        let key = (cells[i] / PRICES) as u32;
-        count = mark(trie, count, limit, key);
-        i += 1;
+    let mut count = 0;
+    for cell in cells {
+        count = mark(trie, count, limit, (*cell / PRICES) as u32);
     }
     count
-}
-
-// The keys are counted on from `start`.
-fn mark_keys(trie: &mut [u32; 40960], start: usize, limit: usize, keys: &[u32]) -> usize
-    requires { limit ≤ 8192 }
-    ensures { result ≡ total trie.old start limit keys.now }
-{
-    let mut count = start;
-    let mut i: usize = 0;
-    while i < keys.len() {
-        count = mark(trie, count, limit, keys[i]);
-        i += 1;
-    }
-    count
-}
-
-// Whether the labels of the table and of the list together, each counted once, are as many as the cells or more.
-pub fn crowded(cells: &[u64], keys: &[u32]) -> bool
-    requires { length cells.now ≤ 8192 }
-    ensures { result ≡ leb (length cells.now) (size (labels label cells.now ++ keys.now)) }
-{
-    let mut trie = [0u32; 40960];
-    let limit = cells.len();
-    let start = mark_cells(&mut trie, limit, cells);
-    let count = mark_keys(&mut trie, start, limit, keys);
-    limit <= count
 }

@@ -1,4 +1,5 @@
 -- The kiosk's examples, computed, and the corollaries of the promise on both models.
+use Rattle.std.specs.Prelude.{Ok}
 use mathlib.Core.Path.{◌≡◌, refl, ap, ap₂}
 use mathlib.Core.Bool.{true}
 use mathlib.Core.Logic.{◌↔◌}
@@ -26,10 +27,9 @@ use Rattle.state.specs.Counts.{count_number, counted_by, if_counted}
 use Rattle.state.specs.Model.{gateway, kiosk}
 use Rattle.state.specs.Open.{table_bars, open_reply}
 use Rattle.state.specs.Refusals.{if, reply_number, first_of}
-use Rattle.state.specs.declared.Counted.{Counted}
+use Rattle.state.specs.Replies.{Counted}
 use Rattle.state.specs.declared.Device.TheVariants.{Gateway, Kiosk}
 use Rattle.state.specs.declared.Refusal.TheVariants.{ShortList}
-use Rattle.state.specs.declared.Reply.TheVariants.{Accepted}
 use Rattle.protocol.specs.IsWellFormed.{is_well_formed}
 use Rattle.rule.specs.Schedules.{one, ones, same_table}
 use Rattle.rule.proofs.Schedules.{same-table}
@@ -188,12 +188,12 @@ kiosk-moves = record {
 }
 
 -- ---- the two models on one table
-opens : (open_reply kiosk 1 2 plain (empty_cells 5) sheet_items ≡ Accepted)
-    × (open_reply gateway 1 3 plain (empty_cells 5) three_items ≡ Accepted)
-    × (open_reply kiosk 1 2 plain (empty_cells 5) price_items ≡ Accepted)
-    × (open_reply gateway 1 3 plain (empty_cells 5) more_price_items ≡ Accepted)
-    × (open_reply kiosk 2 2 plain four [] ≡ Accepted)
-    × (open_reply gateway 2 1 plain four [] ≡ Accepted)
+opens : (open_reply kiosk 1 2 plain (empty_cells 5) sheet_items ≡ Ok tt)
+    × (open_reply gateway 1 3 plain (empty_cells 5) three_items ≡ Ok tt)
+    × (open_reply kiosk 1 2 plain (empty_cells 5) price_items ≡ Ok tt)
+    × (open_reply gateway 1 3 plain (empty_cells 5) more_price_items ≡ Ok tt)
+    × (open_reply kiosk 2 2 plain four [] ≡ Ok tt)
+    × (open_reply gateway 2 1 plain four [] ≡ Ok tt)
 unfolding line_fault lines_fault descending into meets_empty meets_key first all some dist probe wrap
 opens = (refl, refl, refl, refl, refl, refl)
 
@@ -226,7 +226,7 @@ unfolding all_in listed turns_of rounds run call is_well_formed meets_empty meet
 take-out-keys =
     same_keys 2 (λ z. omega arith) (after kiosk 2 2 plain four [] together).ordered (after gateway 2 1 plain four [] in_sequence).ordered tt tt
 
-moves-opened : (migration.open_reply kiosk 2 plain four (empty_cells 7) ≡ Accepted) × (migration.open_reply gateway 3 plain in_six (empty_cells 7) ≡ Accepted)
+moves-opened : (migration.open_reply kiosk 2 plain four (empty_cells 7) ≡ Ok tt) × (migration.open_reply gateway 3 plain in_six (empty_cells 7) ≡ Ok tt)
 unfolding place_of tally bits.ones meets_empty meets_key first all some dist probe wrap
 moves-opened = (refl, refl)
 

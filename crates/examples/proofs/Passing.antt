@@ -1,4 +1,5 @@
 -- Each example as a test that computes, and the laws that turn a passed test into what the example says.
+use Rattle.std.specs.Prelude.{Ok, Err}
 use mathlib.Core.Path.{◌≡◌, refl, sym, ap, ap₂, ◌∙◌, subst}
 use mathlib.Core.Logic.{◌≢◌}
 use mathlib.Core.Bool.{Bool, true, false, not, cond, ◌&&◌}
@@ -40,18 +41,13 @@ use Rattle.state.specs.Open.{hash_bars, sound_bars, table_bars, crowded, opened,
 use Rattle.state.specs.Refusals.{reply_number, if, first_of}
 use Rattle.state.specs.declared.Phase.{Phase}
 use Rattle.state.specs.declared.Refusal.TheVariants.{Size, Unsound, ShortList, Gap, Disorder, Even}
-use Rattle.state.specs.declared.Reply.{Reply}
-use Rattle.state.specs.declared.Reply.TheVariants.{Accepted, Refused}
+use Rattle.state.specs.Replies.{Reply, Counted}
 use Rattle.protocol.specs.Calls.{turn_number, close_call, order_call, turn_call, turn_table}
 use Rattle.protocol.specs.IsWellFormed.{is_well_formed}
 use Rattle.protocol.specs.WellFormed.{WellFormed}
-use Rattle.protocol.specs.declared.TurnReply.{TurnReply}
-use Rattle.protocol.specs.declared.TurnReply.TheVariants.{Answered}
-use Rattle.protocol.specs.declared.TurnReply.TheVariants as turnReply
+use Rattle.protocol.specs.Replies.{TurnReply}
 use Rattle.protocol.proofs.Theorem.{well-formed, orders, turns, closes as closings}
 use Rattle.state.specs.Counts.{count_number, count_value, counted_by, if_counted}
-use Rattle.state.specs.declared.Counted.{Counted}
-use Rattle.state.specs.declared.Counted.TheVariants as counted
 use Rattle.tables.specs.Calls.{check_call, list_bars, list_call}
 use Rattle.history.specs.History.{after}
 use Rattle.history.specs.History as history
@@ -174,13 +170,13 @@ answered-by-code No = refl
 answered-by-code answer.Idle = refl
 
 unfoldable pub answers : TurnReply → Answer → Bool
-answers (Answered a) r = same_table (answer_code a) (answer_code r)
-answers (turnReply.Refused e) r = false
+answers (Ok a) r = same_table (answer_code a) (answer_code r)
+answers (Err e) r = false
 
-same_answer : (o : TurnReply) (r : Answer) → T (answers o r) → o ≡ Answered r
+same_answer : (o : TurnReply) (r : Answer) → T (answers o r) → o ≡ Ok r
 unfolding answers
-same_answer (Answered a) r p = ap Answered (sym (answered-by-code a) ∙ ap answer-of (same-table (answer_code a) (answer_code r) p) ∙ answered-by-code r)
-same_answer (turnReply.Refused e) r p = absurd p
+same_answer (Ok a) r p = ap Ok (sym (answered-by-code a) ∙ ap answer-of (same-table (answer_code a) (answer_code r) p) ∙ answered-by-code r)
+same_answer (Err e) r p = absurd p
 
 -- ---- check, count and list, with the number of labels for the count of ones
 module _ (ab : Hash) (t out : List ℕ) where
@@ -247,7 +243,7 @@ blank-count (suc n) = zero-add (occupied (empty_cells n)) ∙ blank-count n
 
 -- by their number and a alone
 abbrev sized : Hash → ℕ → Reply
-sized ab n = cond (not (size_ok gateway n)) (Refused Size) (cond (is_even ab) (Refused Even) Accepted)
+sized ab n = cond (not (size_ok gateway n)) (Err Size) (cond (is_even ab) (Err Even) (Ok tt))
 
 blank-check : (ab : Hash) (n : ℕ) → check_call gateway ab (empty_cells n) ≡ sized ab n
 blank-check ab zero = refl
@@ -274,8 +270,8 @@ blank-open ab (suc n) k m kind crew = by-eq k 1
     rw (ne_eqb k 1 ne, blank-intact ab n, blank-gapless ab n, blank-ordered ab n, (within-says 1 16 m).1 crew, (within-says 1 3 k).1 kind, blank-length n))
 
 no_value : (r : Reply) → count_value (counted_by 0 r) ≡ 0
-no_value Accepted = refl
-no_value (Refused r) = refl
+no_value (Ok _) = refl
+no_value (Err r) = refl
 
 blank-value : (ab : Hash) (n : ℕ) → count_value (counted_by (count_of (empty_cells n)) (sized ab n)) ≡ 0
 blank-value ab n = ap (λ (c : ℕ). count_value (counted_by c (sized ab n))) (count-occupied (empty_cells n) ∙ blank-count n) ∙ no_value (sized ab n)
@@ -296,12 +292,12 @@ blank-filled : (n : ℕ) (out : List ℕ) → filled (empty_cells n) out ≡ out
 blank-filled n out = ap₂ (λ (l : List ℕ) (c : ℕ). l ++ drop c out) (no_keys n) (blank-count n)
 
 either : (a : Counted) (x y : List ℕ) → x ≡ y → if_counted a x y ≡ y
-either (counted.Count c) x y e = e
-either (counted.Refused r) x y e = refl
+either (Ok c) x y e = e
+either (Err r) x y e = refl
 
 count-number : (c : ℕ) (r : Reply) → count_number (counted_by c r) ≡ reply_number r
-count-number c Accepted = refl
-count-number c (Refused r) = refl
+count-number c (Ok _) = refl
+count-number c (Err r) = refl
 
 -- ---- refused tables
 -- 21 and the table's 4, 17 and 18, and the same before any further refusals
@@ -309,9 +305,9 @@ abbrev marked_by : Hash → List ℕ → Reply
 marked_by ab t = first_of (hash_bars ab ++ sound_bars gateway ab t)
 
 abbrev of_four : (even whole gap disorder : Bool) → Reply → Reply
-of_four e w g d further = cond e (Refused Even) (cond (not w) (Refused Unsound) (cond g (Refused Gap) (cond d (Refused Disorder) further)))
+of_four e w g d further = cond e (Err Even) (cond (not w) (Err Unsound) (cond g (Err Gap) (cond d (Err Disorder) further)))
 
-before-further : (e w g d : Bool) (further : Reply) → reply_number (of_four e w g d Accepted) ≢ 0 → of_four e w g d further ≡ of_four e w g d Accepted
+before-further : (e w g d : Bool) (further : Reply) → reply_number (of_four e w g d (Ok tt)) ≢ 0 → of_four e w g d further ≡ of_four e w g d (Ok tt)
 before-further true w g d further ne = refl
 before-further false false g d further ne = refl
 before-further false true true d further ne = refl
@@ -320,21 +316,21 @@ before-further false true false false further ne = absurd (ne refl)
 
 -- a refusal gives no count, keeps a list and hands back a shut record
 refused-value : (c : ℕ) (r : Reply) → reply_number r ≢ 0 → count_value (counted_by c r) ≡ 0
-refused-value c Accepted ne = absurd (ne refl)
-refused-value c (Refused e) ne = refl
+refused-value c (Ok _) ne = absurd (ne refl)
+refused-value c (Err e) ne = refl
 
 refused-list : (c : ℕ) (r : Reply) (x y : List ℕ) → reply_number r ≢ 0 → if_counted (counted_by c r) x y ≡ y
-refused-list c Accepted x y ne = absurd (ne refl)
-refused-list c (Refused e) x y ne = refl
+refused-list c (Ok _) x y ne = absurd (ne refl)
+refused-list c (Err e) x y ne = refl
 
 module _ (k m : ℕ) (ab : Hash) (t : List ℕ) where
   refused-phase : (r : Reply) → reply_number r ≢ 0 → (opened gateway k m ab t r).phase ≡ handed_back
-  refused-phase Accepted ne = absurd (ne refl)
-  refused-phase (Refused e) ne = refl
+  refused-phase (Ok _) ne = absurd (ne refl)
+  refused-phase (Err e) ne = refl
 
   opened-reply : (r : Reply) → (opened gateway k m ab t r).reply ≡ r
-  opened-reply Accepted = refl
-  opened-reply (Refused e) = refl
+  opened-reply (Ok _) = refl
+  opened-reply (Err e) = refl
 
 -- a table of a length within the limits, refused
 module _ (ab : Hash) (t : List ℕ) (cells : size_ok gateway (length t) ≡ true) (bad : reply_number (marked_by ab t) ≢ 0) where
@@ -523,7 +519,7 @@ tracing-says ab k t a r b u p =
     let three = same_table cells u in
     let phase : o.phase ≡ alone_by ab k (length t) b = same-phase o.phase (alone_by ab k (length t) b) (and_left one (two && three) p) in
     let q = and_right one (two && three) p in
-    let reply : o.reply ≡ Answered r = same_answer o.reply r (and_left two three q) in
+    let reply : o.reply ≡ Ok r = same_answer o.reply r (and_left two three q) in
     (λ i. record { phase = phase i; reply = reply i }, same-table cells u (and_right two three q))
 
 refusing-says : (ab : Hash) (p : Phase) (t : List ℕ) (w r : ℕ) → T (passes ab (refusing p t w r)) → Says ab (refusing p t w r)

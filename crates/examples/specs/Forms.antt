@@ -1,6 +1,6 @@
 -- The forms that a worked example may have, and what an example of each form says of tables that are used with a and b. Numbers of refusals are the
 -- documents', 0 where there is none.
-use Rattle.std.specs.Prelude.{◌≡◌, ◌≢◌, Bool, true, false, List, [], ◌∷◌, map, ℕ, zero, suc, ◌≤◌, length, set, replicate}
+use Rattle.std.specs.Prelude.{◌≡◌, ◌≢◌, Bool, true, false, List, [], ◌∷◌, map, ℕ, zero, suc, ◌≤◌, length, set, replicate, Ok}
 use Rattle.homes.specs.Homes.{plain, spread}
 use Rattle.homes.specs.declared.Hash.{Hash}
 use Rattle.prices.specs.Contents.{label, SoundTable}
@@ -18,7 +18,6 @@ use Rattle.state.specs.Open.{open_reply, open_call}
 use Rattle.state.specs.Refusals.{reply_number}
 use Rattle.state.specs.declared.Phase.{Phase}
 use Rattle.protocol.specs.Calls.{turn_number, close_call, order_call, turn_call, turn_table}
-use Rattle.protocol.specs.declared.TurnReply.TheVariants.{Answered}
 use Rattle.tables.specs.Calls.{check_call, count_call, list_call, list_after, list_front}
 use Rattle.history.specs.History.{Call, order, turn, after}
 use Rattle.history.specs.History as history
@@ -201,7 +200,7 @@ Says ab (calling k m t os cs i u) =
     × ((after gateway k m ab t os (calls_of cs)).phase ≡ phase_by ab k (length t) m true all_idle)
     × ((after gateway k m ab t os (calls_of cs)).table ≡ u)
 Says ab (tracing k t a r b u) =
-    (turn_call gateway (alone_by ab k (length t) a) t 0 ≡ record { phase = alone_by ab k (length t) b; reply = Answered r })
+    (turn_call gateway (alone_by ab k (length t) a) t 0 ≡ record { phase = alone_by ab k (length t) b; reply = Ok r })
     × (turn_table gateway (alone_by ab k (length t) a) t 0 ≡ u)
 Says ab (refusing p t w r) = (turn_number (turn_call gateway p t w).reply ≡ r) × ((turn_call gateway p t w).phase ≡ p) × (turn_table gateway p t w ≡ t)
 Says ab (bound p q) = Unspoilt p × Spoilt q

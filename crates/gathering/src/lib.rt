@@ -8,22 +8,15 @@ ghost use Rattle.gathering.specs.Gathers.{Gathers};
 use lines::Line;
 
 // Gathers bytes of a line behind those gathered before. What follows the bytes kept of a line does not change what it says.
-#[tactic(auto, using(crate::proofs::Gathering::full_rules), unfolding(lines::specs::Grammar::longest_line, lines::specs::Grammar::kept_bytes))]
+#[tactic(auto, unfolding(lines::specs::Grammar::longest_line, lines::specs::Grammar::kept_bytes))]
 pub fn gather(bytes: &[u8], line: &mut [u8], gathered: usize) -> usize
     requires { (gathered ≤ kept_bytes) × (kept_bytes ≤ length line.old) }
     ensures { Gathers (take gathered line.old ++ bytes.now) line.new result }
 {
-    let mut len = gathered;
-    let mut i: usize = 0;
-    while i < bytes.len() {
-        if len == Line::KEPT {
-            return len;
-        }
-        line[len] = bytes[i];
-        len += 1;
-        i += 1;
-    }
-    len
+    let count = bytes.len().min(Line::KEPT - gathered);
+    let end = gathered + count;
+    line[gathered..end].copy_from_slice(&bytes[..count]);
+    end
 }
 
 // What a line says that ends in these bytes: they are the line, unless bytes of it were gathered before.

@@ -7,12 +7,15 @@ ghost use Rattle.migration.specs.Lists.{calls_lent, RunsFrom, Ran, MovePromised}
 use homes::Hash;
 use migrating::{close, open, order, turn};
 use migration::{Migrated, Migration};
-use parallel::least;
 use singly::{reply_answer, turn_answer};
-use state::{Device, Reply};
+use state::Device;
 
-// Applies calls from a migration on, as many as the shortest of ops, workers and answers has; `answers` takes their answers' numbers. Operation 1 is an
-// order, 2 a turn, any other a close.
+// The operations' numbers; any other is a close.
+const ORDER: u32 = 1;
+
+const TURN: u32 = 2;
+
+// Applies calls from a migration on, as many as the shortest of ops, workers and answers has; `answers` takes their answers' numbers.
 fn run_from(
     device: Device,
     migration: Migration,
@@ -26,29 +29,22 @@ fn run_from(
         (calls_lent ops.now workers.now answers.old)
         answers.old result old.now new.new answers.new }
 {
-    let all = least(least(ops.len(), workers.len()), answers.len());
+    let all = ops.len().min(workers.len()).min(answers.len());
     let mut next = migration;
-    let mut i: usize = 0;
-    while i < all {
-        let op = ops[i];
+    for i in 0..all {
         let worker = workers[i] as usize;
-        let place = i;
-        i += 1;
-        if op == 1 {
+        if ops[i] == ORDER {
             let ordered = order(device, next, worker);
             next = ordered.migration;
-            let reply = ordered.reply;
-            answers[place] = reply_answer(reply);
-        } else if op == 2 {
+            answers[i] = reply_answer(ordered.reply);
+        } else if ops[i] == TURN {
             let turned = turn(device, next, old, new, worker);
             next = turned.migration;
-            let reply = turned.reply;
-            answers[place] = turn_answer(reply);
+            answers[i] = turn_answer(turned.reply);
         } else {
             let closed = close(device, next);
             next = closed.migration;
-            let reply = closed.reply;
-            answers[place] = reply_answer(reply);
+            answers[i] = reply_answer(closed.reply);
         }
     }
     next
@@ -70,16 +66,11 @@ pub fn run_moves(
     ensures promise { MovePromised (model_of device) crew hash old.now new.old ops.now workers.now answers.old }
 {
     let opened = open(device, crew, hash, old, new);
-    let migration = opened.migration;
-    let reply = opened.reply;
-    match reply {
-        Reply::Accepted => Migrated {
-            migration: run_from(device, migration, old, new, ops, workers, answers),
-            reply: Reply::Accepted,
+    match opened.reply {
+        Ok(()) => Migrated {
+            migration: run_from(device, opened.migration, old, new, ops, workers, answers),
+            reply: Ok(()),
         },
-        Reply::Refused(why) => Migrated {
-            migration,
-            reply: Reply::Refused(why),
-        },
+        Err(_) => opened,
     }
 }

@@ -1,4 +1,5 @@
 -- What is known of the run that a history shows, said of the history.
+use Rattle.std.specs.Prelude.{Ok}
 use mathlib.Core.Path.{◌≡◌, refl, sym, ap, ◌∙◌}
 use mathlib.Core.Logic.Iff
 use mathlib.Core.Logic.{◌≢◌, ◌↔◌, ◌⊎◌, inl, inr, ⊎_map, ⊎_elim}
@@ -35,7 +36,6 @@ use Rattle.phases.proofs.Roomy.{room_by}
 use Rattle.determinism.proofs.Closing.{stays-sound}
 use Rattle.determinism.proofs.Theorem as determinism
 use Rattle.state.specs.Model.{Model}
-use Rattle.state.specs.declared.Reply.TheVariants.{Accepted}
 use Rattle.protocol.specs.Bars.{doing}
 use Rattle.protocol.specs.Calls.{order_call}
 use Rattle.protocol.specs.IsWellFormed.{is_well_formed}
@@ -193,7 +193,7 @@ module _ (k n m : ℕ) (ab : Hash) (home : ℕ → ℕ) (hb : (x : ℕ) → home
   -- a good line is accepted if its worker is idle
   pub accepts : (M : Model) → Size M n → Crew M m → (os : List Order) → (k ≡ 1 → (i : ℕ) → i < length os → Good m (get_or os i blank))
       → k ≡ 1 → s.closed ≡ false → (i : ℕ) → i < length os → doing s.phase (get_or os i blank).worker ≡ Idle
-      → (w v : ℕ) → (order_call M s.phase os i w v).reply ≡ Accepted
+      → (w v : ℕ) → (order_call M s.phase os i w v).reply ≡ Ok tt
   accepts M size crew os good one up i there free w v =
       let o = good one i there in
       let (_, (_, (_, (_, (_, (_, (_, (_, none)))))))) = (orders M s.phase os i w v).inserts (h.kind ∙ one) in

@@ -1,4 +1,5 @@
 -- The counted turns are those whose answers tell of an unfinished order.
+use Rattle.std.specs.Prelude.{Ok, Err}
 use mathlib.Core.Path.{◌≡◌, refl}
 use mathlib.Core.Logic.{◌↔◌, ⊎_elim}
 use mathlib.Core.List.{List, [], ◌∷◌}
@@ -20,18 +21,17 @@ use Rattle.rule.specs.declared.Answer.TheVariants as answer
 use Rattle.state.specs.Model.{Model}
 use Rattle.state.specs.declared.Phase.{Phase}
 use Rattle.protocol.specs.Calls.{close_reply, found_reply, turn_call, turn_table}
-use Rattle.protocol.specs.declared.TurnReply.{TurnReply}
-use Rattle.protocol.specs.declared.TurnReply.TheVariants as turnReply
+use Rattle.protocol.specs.Replies.{TurnReply}
 use Rattle.protocol.proofs.Chain.{by-reply}
 use Rattle.protocol.proofs.Theorem.{turns}
 use Rattle.history.specs.History.{Call, order, turn, close, History, after_turn, worked, call, run, turn_replies}
 use Rattle.history.proofs.Simulation.{Shows, unfinished-says, follows}
 
 -- x is the entry of an unfinished operation: an answer is idle exactly if there is none
-worked-says : (a : Answer) (x : ℕ) → (a ≡ answer.Idle) ↔ (x ≡ 0) → bit (ltb 0 x) ≡ bit (worked (turnReply.Answered a))
+worked-says : (a : Answer) (x : ℕ) → (a ≡ answer.Idle) ↔ (x ≡ 0) → bit (ltb 0 x) ≡ bit (worked (Ok a))
 worked-says a x h = by-eq x 0 (λ z. let i : a ≡ answer.Idle = h.1 z in rw (z, i)) (λ nz. rw (lt-ltb 0 x (omega arith)) (busy a (λ i. nz (h.0 i))))
   where
-    busy : (b : Answer) → (b ≡ answer.Idle → ⊥) → 1 ≡ bit (worked (turnReply.Answered b))
+    busy : (b : Answer) → (b ≡ answer.Idle → ⊥) → 1 ≡ bit (worked (Ok b))
     busy WentOn _ = refl
     busy Finished _ = refl
     busy (Price q) _ = refl
@@ -40,10 +40,10 @@ worked-says a x h = by-eq x 0 (λ z. let i : a ≡ answer.Idle = h.1 z in rw (z,
 
 -- what a turn's answer adds
 turn-adds : (w : ℕ) (t : List ℕ) (p : Phase) (r : TurnReply) (s : History)
-    → ((a : Answer) → r ≡ turnReply.Answered a → (a ≡ answer.Idle) ↔ (get_or s.pending w 0 ≡ 0))
+    → ((a : Answer) → r ≡ Ok a → (a ≡ answer.Idle) ↔ (get_or s.pending w 0 ≡ 0))
     → (after_turn w t p r s).counted ≡ bit (worked r) + s.counted
-turn-adds w t p (turnReply.Answered a) s h = omega (arith, worked-says a (get_or s.pending w 0) (h a refl))
-turn-adds w t p (turnReply.Refused r) s h = omega arith
+turn-adds w t p (Ok a) s h = omega (arith, worked-says a (get_or s.pending w 0) (h a refl))
+turn-adds w t p (Err r) s h = omega arith
 
 module _ (M : Model) (os : List Order) (k n m : ℕ) (ab : Hash) where
   turn-counts : (w : ℕ) (s : History) (r : Run) → Shows k n m ab s r

@@ -1,4 +1,5 @@
 -- The run that an accepted opening shows.
+use Rattle.std.specs.Prelude.{Ok}
 use mathlib.Core.Path.{◌≡◌, refl, sym, ◌∙◌}
 use mathlib.Core.Bool.{false}
 use mathlib.Core.List.{List}
@@ -12,7 +13,6 @@ use Rattle.rule.proofs.Crew.{replicate-at}
 use Rattle.state.specs.Model.{Model, Proper}
 use Rattle.state.specs.Open.{open_reply}
 use Rattle.activities.specs.declared.Activity.TheVariants.{Idle}
-use Rattle.state.specs.declared.Reply.TheVariants.{Accepted}
 use Rattle.protocol.specs.Promise.{Resting}
 use Rattle.protocol.specs.WellFormed.{Kind}
 use Rattle.ring.proofs.Tests.{not_both}
@@ -28,7 +28,7 @@ use Rattle.history.proofs.Unordered.{Untouched}
 pub by-kinds {ℓ} : {C : Type ℓ} (k : ℕ) → Kind k → (k ≡ 1 → C) → (k ≡ 2 → C) → (k ≡ 3 → C) → C
 by-kinds k e f g h = by-eq k 1 f (λ a. by-eq k 2 g (λ b. h (omega arith)))
 
-module _ (M : Model) (proper : Proper M) (k m : ℕ) (ab : Hash) (t : List ℕ) (os : List Order) (accepted : open_reply M k m ab t os ≡ Accepted) where
+module _ (M : Model) (proper : Proper M) (k m : ℕ) (ab : Hash) (t : List ℕ) (os : List Order) (accepted : open_reply M k m ab t os ≡ Ok tt) where
   some-cells : 0 < length t
   some-cells = omega (arith, proper.some, (open-passed M k m ab t os accepted).size)
 

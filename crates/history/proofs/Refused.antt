@@ -1,4 +1,5 @@
 -- A refused opening hands back a shut phase state; it is well formed, and no call changes it.
+use Rattle.std.specs.Prelude.{Ok}
 use mathlib.Core.Path.{◌≡◌, refl, ◌∙◌}
 use mathlib.Core.Logic.{◌≢◌}
 use mathlib.Core.Bool.{true}
@@ -9,7 +10,6 @@ use Rattle.orders.specs.Orders.{line_at}
 use Rattle.orders.specs.declared.Order.{Order}
 use Rattle.state.specs.Model.{Model, size_ok, crew_ok}
 use Rattle.state.specs.Open.{open_reply, refused_phase}
-use Rattle.state.specs.declared.Reply.TheVariants.{Accepted}
 use Rattle.protocol.specs.Calls.{close_reply, found_reply, turn_check}
 use Rattle.protocol.specs.IsWellFormed.{is_well_formed}
 use Rattle.protocol.proofs.Chain.{by-reply}
@@ -21,7 +21,7 @@ use Rattle.protocol.proofs.Theorem.{well-formed, order-passed, close_passed, tur
 use Rattle.history.specs.History.{Call, order, turn, close, History, call, run, opening}
 
 module _ (M : Model) (os : List Order) where
-  pub refused-phase : (k m : ℕ) (ab : Hash) (t : List ℕ) → open_reply M k m ab t os ≢ Accepted → (opening M k m ab t os).phase ≡ refused_phase M
+  pub refused-phase : (k m : ℕ) (ab : Hash) (t : List ℕ) → open_reply M k m ab t os ≢ (Ok tt) → (opening M k m ab t os).phase ≡ refused_phase M
   refused-phase k m ab t ne = by-reply (open_reply M k m ab t os) (λ e. absurd (ne e)) (λ _ e. rw e)
 
   shut-call : (c : Call) (s : History) → s.phase.shut ≡ true → (call M os c s).phase ≡ s.phase

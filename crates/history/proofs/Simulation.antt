@@ -1,4 +1,5 @@
 -- A list of calls runs like a list of events: an order or turn that is not refused is the event of the same name, a refused call and a close are none.
+use Rattle.std.specs.Prelude.{Option, ℕ, Some, None, Ok}
 use mathlib.Core.Path.{◌≡◌, refl, sym, ap, ap₂, ◌∙◌}
 use mathlib.Core.Logic.{◌≢◌, ◌↔◌, ◌⊎◌, inl, inr, ⊎_elim}
 use mathlib.Core.Bool.{true, false}
@@ -17,16 +18,12 @@ use Rattle.activities.specs.Activities.{busy, entry_of}
 use Rattle.rule.specs.Events.{Run, Event, worker, AllIdle, tells, stepped_at, stepped, accepts, event}
 use Rattle.rule.specs.Rule.{touched, rule, start}
 use Rattle.rule.specs.declared.Outcome.{Outcome}
-use Rattle.rule.specs.declared.Place.{Place}
-use Rattle.rule.specs.declared.Place.TheVariants.{Nowhere, At}
 use Rattle.rule.proofs.Suits.{nowhere-idle}
 use Rattle.state.specs.Model.{Model}
 use Rattle.activities.specs.declared.Activity.{Activity}
 use Rattle.activities.specs.declared.Activity.TheVariants.{Idle}
-use Rattle.state.specs.declared.Reply.TheVariants.{Accepted}
 use Rattle.protocol.specs.Bars.{doing}
 use Rattle.protocol.specs.Calls.{asked, entry_for, with_worker, close_reply, found_reply, turn_check, moved_at, cells_at}
-use Rattle.protocol.specs.declared.TurnReply.TheVariants as turnReply
 use Rattle.protocol.proofs.Chain.{by-reply}
 use Rattle.protocol.proofs.Pricing.{entry_key}
 use Rattle.ring.proofs.Tests.{not_both}
@@ -92,7 +89,7 @@ module _ (M : Model) (os : List Order) (k n m : ℕ) (ab : Hash) where
   abbrev entry : History → (i w v : ℕ) → ℕ
   entry s i w v = entry_for s.phase.kind (at s i w v).key (at s i w v).price
 
-  order-shows : (s : History) (r : Run) (i w v : ℕ) → Shows k n m ab s r → found_reply M s.phase (line_at os i) w v ≡ Accepted
+  order-shows : (s : History) (r : Run) (i w v : ℕ) → Shows k n m ab s r → found_reply M s.phase (line_at os i) w v ≡ Ok tt
       → Shows k n m ab (call M os (order i w v) s) (event k n label (M.home ab n) (events.order (at s i w v).worker (entry s i w v)) r)
   unfolding call events.ordered
   order-shows s r i w v h e =
@@ -122,7 +119,7 @@ module _ (M : Model) (os : List Order) (k n m : ℕ) (ab : Hash) where
   -- an outcome at cell c, the same on both sides
   moved-shows : (s : History) (r : Run) (w c : ℕ) (a : Activity) (o : Outcome) → Shows k n m ab s r → s.phase.shut ≡ false → w < m → Agrees k (get_or s.pending w 0) a
       → Agrees k (entry_left o.answer (get_or s.pending w 0)) o.activity
-      → Shows k n m ab (after_turn w (set s.table c o.content) (with_worker s.phase w o.activity) (turnReply.Answered o.answer) s)
+      → Shows k n m ab (after_turn w (set s.table c o.content) (with_worker s.phase w o.activity) (Ok o.answer) s)
       (record {
         table = set r.table c o.content;
         workers = set r.workers w o.activity;
@@ -150,14 +147,14 @@ module _ (M : Model) (os : List Order) (k n m : ℕ) (ab : Hash) where
   unfolding event stepped
   step_is r w a l is = rw (lt-ltb w (length r.workers) l, is)
 
-  turned-shows : (s : History) (r : Run) (w : ℕ) (q : Place) → Shows k n m ab s r → s.phase.shut ≡ false → w < m → touched (doing s.phase w) ≡ q
+  turned-shows : (s : History) (r : Run) (w : ℕ) (q : Option ℕ) → Shows k n m ab s r → s.phase.shut ≡ false → w < m → touched (doing s.phase w) ≡ q
       → let u = moved_at M s.phase s.table w q in
       Shows k n m ab (after_turn w (cells_at M s.phase s.table w q) u.phase u.reply s) (stepped_at k n label (M.home ab n) r w (doing s.phase w) q)
-  turned-shows s r w Nowhere h running l is =
+  turned-shows s r w None h running l is =
       let i : worker r w ≡ Idle = sym (h.crew.same w) ∙ nowhere-idle (doing s.phase w) is in
       let z : bit (ltb 0 (get_or s.pending w 0)) + s.counted ≡ s.counted = omega (arith, (h.crew.agree w).unfinished, ap busy i) in
       rw z h
-  turned-shows s r w (At c) h running l is =
+  turned-shows s r w (Some c) h running l is =
       let a = doing s.phase w in
       let same : rule s.phase.kind s.phase.length label (M.home s.phase.hash s.phase.length) a (get_or s.table c 0)
       ≡ rule k n label (M.home ab n) a (get_or r.table c 0)
@@ -167,7 +164,7 @@ module _ (M : Model) (os : List Order) (k n m : ℕ) (ab : Hash) where
       (moved-shows s r w c a (rule k n label (M.home ab n) a (get_or r.table c 0)) h running l before
       (agrees-step k n label (M.home ab n) (get_or s.pending w 0) a (get_or r.table c 0) before))
 
-  pub turn-shows : (s : History) (r : Run) (w : ℕ) → Shows k n m ab s r → turn_check M s.phase s.table w ≡ Accepted
+  pub turn-shows : (s : History) (r : Run) (w : ℕ) → Shows k n m ab s r → turn_check M s.phase s.table w ≡ Ok tt
       → Shows k n m ab (call M os (turn w) s) (event k n label (M.home ab n) (events.step w) r)
   unfolding call
   turn-shows s r w h e =

@@ -1,4 +1,5 @@
 -- The accepted orders: each could be accepted, and in an insert phase each is of a line of the list that its call was lent.
+use Rattle.std.specs.Prelude.{Ok}
 use mathlib.Core.Path.{◌≡◌, sym, ap, ◌∙◌, subst}
 use mathlib.Core.Logic.{◌≢◌, ⊎_elim}
 use mathlib.Core.List.{List, [], ◌∷◌}
@@ -13,10 +14,10 @@ use Rattle.orders.specs.Orders.{blank, line_at}
 use Rattle.orders.specs.declared.Order.{Order}
 use Rattle.state.specs.Model.{Model}
 use Rattle.state.specs.declared.Phase.{Phase}
-use Rattle.state.specs.declared.Reply.TheVariants.{Accepted}
 use Rattle.protocol.specs.Calls.{asked, entry_for, close_reply, found_reply, turn_call, turn_table}
 use Rattle.protocol.specs.Lines.{Priced, ShopKey}
 use Rattle.protocol.proofs.Chain.{by-reply}
+use Rattle.protocol.proofs.Lines.{line-order}
 use Rattle.protocol.proofs.Pricing.{entry-priced, entry-bare, entry_key}
 use Rattle.protocol.proofs.Theorem.{Passed, order-passed, turns}
 use Rattle.history.specs.History.{Call, order, turn, close, History, call, run, Lent, run_lent}
@@ -45,14 +46,14 @@ module _ (M : Model) (k : ℕ) (L : ℕ → Type 0) (os : List Order) (known : (
       → OfLine os (entry_for p.kind (asked p.kind (line_at os i) w v).key (asked p.kind (line_at os i) w v).price)
   of_line {p} is i w v q =
       let o = get_or os i blank in
-      let same : asked p.kind (line_at os i) w v ≡ o = rw (eq-eqb p.kind 1 is) in
+      let same : asked p.kind (line_at os i) w v ≡ o = rw (eq-eqb p.kind 1 is, line-order os i) in
       let (low, high) = subst (λ (x : Order). (1 ≤ x.price) × (x.price ≤ 9999999)) same (q.price is) in
       let made = contents.made o.key o.price (omega arith) in
       let entry : entry_for p.kind (asked p.kind (line_at os i) w v).key (asked p.kind (line_at os i) w v).price ≡ content o.key o.price
-      = rw (eq-eqb p.kind 1 is) in
+      = rw (eq-eqb p.kind 1 is, line-order os i) in
       record { line = i; inside = q.there is; is = ap label entry ∙ made.0; costs = ap price entry ∙ made.1 }
 
-  order-taken : (s : History) (i w v : ℕ) → Taken k L s → found_reply M s.phase (line_at os i) w v ≡ Accepted → Taken k L (call M os (order i w v) s)
+  order-taken : (s : History) (i w v : ℕ) → Taken k L s → found_reply M s.phase (line_at os i) w v ≡ Ok tt → Taken k L (call M os (order i w v) s)
   unfolding call
   order-taken s i w v h ok =
       let q = order-passed M s.phase os i w v ok in

@@ -1,4 +1,5 @@
 -- The promises of this crate.
+use Rattle.std.specs.Prelude.{Ok}
 use mathlib.Core.Path.{◌≡◌, refl, sym, ap, ◌∙◌, subst}
 use mathlib.Core.Logic.Iff
 use mathlib.Core.Logic.{◌≢◌, inl, ⊎_elim}
@@ -27,7 +28,6 @@ use Rattle.state.specs.Model.{Model, model_of}
 use Rattle.state.proofs.Model.{proper}
 use Rattle.state.specs.Open.{refused_phase}
 use Rattle.state.specs.declared.Phase.{Phase}
-use Rattle.state.specs.declared.Reply.TheVariants.{Accepted}
 use Rattle.protocol.specs.Calls.{close_reply}
 use Rattle.protocol.proofs.Theorem.{open-passed}
 use Rattle.history.specs.History.{Call, order, turn, close, History, call, run, Lent, run_lent, opening, after, after_lent}
@@ -144,7 +144,7 @@ keeps_table M proper k m ab t os accepted =
     let s = opening M k m ab t os in
     let still = opening-untouched M proper k m ab t os accepted in
     let r = resting M proper k m ab t os accepted in
-    let c : close_reply M s.phase ≡ Accepted = close-accepted M s.phase (history M proper k m ab t os accepted []).formed r.shut r.rest in
+    let c : close_reply M s.phase ≡ (Ok tt) = close-accepted M s.phase (history M proper k m ab t os accepted []).formed r.shut r.rest in
     record { at_once = rw c (refl, refl); no_orders = λ cs. (run-untouched M os t cs s still).table }
 
 -- ---- two closed lists

@@ -1,4 +1,5 @@
 -- Two turns alike in kind, length, record and touched cell. The touched cell is in the table, since the phase is well formed.
+use Rattle.std.specs.Prelude.{Option, ℕ, Some, None, Ok}
 use mathlib.Core.Path.{◌≡◌, refl, sym, ap, ◌∙◌}
 use Prim.Native.Nat.{ℕ}
 use native.Mathlib.Omega.{arith}
@@ -8,12 +9,9 @@ use Rattle.prices.specs.Contents.{label}
 use Rattle.activities.specs.Activities.{idle}
 use Rattle.rule.specs.Rule.{touched, rule}
 use Rattle.rule.specs.declared.Outcome.{Outcome}
-use Rattle.rule.specs.declared.Place.{Place}
-use Rattle.rule.specs.declared.Place.TheVariants.{Nowhere, At}
 use Rattle.activities.specs.declared.Worker.{Worker}
 use Rattle.protocol.specs.Bars.{doing}
 use Rattle.protocol.specs.Calls.{turn_table}
-use Rattle.protocol.specs.declared.TurnReply.TheVariants.{Answered}
 use Rattle.protocol.proofs.Frames.{present, moved}
 use Rattle.protocol.proofs.Theorem.{turn-passed, inside}
 use Rattle.history.specs.Promise.{Alike, TwoTurnsPromise}
@@ -22,7 +20,7 @@ pub alike : TwoTurnsPromise
 alike M p q t u w z a b kind hash sized same held = by (touched (doing p w)) refl (ap touched (sym same))
   where
     -- the rule gives both turns one outcome
-    outcome : (c : ℕ) → touched (doing p w) ≡ At c
+    outcome : (c : ℕ) → touched (doing p w) ≡ Some c
         → rule p.kind p.length label (M.home p.hash p.length) (doing p w) (get_or t c 0)
         ≡ rule q.kind q.length label (M.home q.hash q.length) (doing q z) (get_or u c 0)
     outcome c is =
@@ -30,15 +28,15 @@ alike M p q t u w z a b kind hash sized same held = by (touched (doing p w)) ref
         let e : get_or t c 0 ≡ get_or u c 0 = held c is in
         rw (kind, hash, l, same, e)
 
-    cell : (c : ℕ) → touched (doing p w) ≡ At c → get_or (turn_table M p t w) c 0 ≡ get_or (turn_table M q u z) c 0
+    cell : (c : ℕ) → touched (doing p w) ≡ Some c → get_or (turn_table M p t w) c 0 ≡ get_or (turn_table M q u z) c 0
     cell c is = rw (a, b, ← same, is) (
         get_or-set_same t c _ 0 (inside M p t w c a is)
         ∙ ap (λ (r : Outcome). r.content) (outcome c is)
         ∙ sym (get_or-set_same u c _ 0 (inside M q u z c b (ap touched (sym same) ∙ is)))
         )
 
-    by : (x : Place) → touched (doing p w) ≡ x → touched (doing q z) ≡ touched (doing p w) → Alike M p q t u w z
-    by Nowhere is is' =
+    by : (x : Option ℕ) → touched (doing p w) ≡ x → touched (doing q z) ≡ touched (doing p w) → Alike M p q t u w z
+    by None is is' =
         record {
           replies = rw (a, b, is', is);
           records = rw (a, b, is', is) same;
@@ -47,13 +45,13 @@ alike M p q t u w z a b kind hash sized same held = by (touched (doing p w)) ref
           other_workers = λ v ne. rw (a, is);
           sized = rw (a, is);
         }
-    by (At d) is is' =
+    by (Some d) is is' =
         record {
-          replies = rw (a, b, is', is) (ap (λ (r : Outcome). Answered r.answer) (outcome d is));
+          replies = rw (a, b, is', is) (ap (λ (r : Outcome). Ok r.answer) (outcome d is));
           records = rw (a, b, is', is)
               (moved p w _ (present p w d is) ∙ ap (λ (r : Outcome). r.activity) (outcome d is) ∙ sym (moved q z _ (present q z d (is' ∙ is))));
           cells = cell;
-          other_cells = λ c ne. rw (a, is) (get_or-set_other t d c _ 0 (λ e. ne (is ∙ ap At (sym e))));
+          other_cells = λ c ne. rw (a, is) (get_or-set_other t d c _ 0 (λ e. ne (is ∙ ap Some (sym e))));
           other_workers = λ v ne. rw (a, is) (ap (λ (x : Worker). x.activity) (get_or-set_other p.workers w v _ idle ne));
           sized = rw (a, is) (length-set t d _);
         }

@@ -1,4 +1,5 @@
 -- While no order is accepted, all workers are idle and the table stays.
+use Rattle.std.specs.Prelude.{Ok}
 use mathlib.Core.Path.{◌≡◌, sym, ap, ◌∙◌}
 use mathlib.Core.Bool.{true, false}
 use mathlib.Core.List.{List, [], ◌∷◌}
@@ -9,7 +10,6 @@ use Rattle.orders.specs.Orders.{line_at}
 use Rattle.orders.specs.declared.Order.{Order}
 use Rattle.state.specs.Model.{Model}
 use Rattle.state.specs.declared.Phase.{Phase}
-use Rattle.state.specs.declared.Reply.TheVariants.{Accepted}
 use Rattle.protocol.specs.Bars.{doing}
 use Rattle.protocol.specs.Calls.{asked, entry_for, close_reply, found_reply, turn_call, turn_table}
 use Rattle.protocol.specs.IsWellFormed.{is_well_formed}
@@ -54,5 +54,5 @@ module _ (M : Model) (os : List Order) (t : List ℕ) where
   run-untouched (c ∷ cs) s h = run-untouched cs (call M os c s) (call-untouched c s h)
 
 -- a close is accepted where the phase state is well formed and open, and all workers are idle
-pub close-accepted : (M : Model) (p : Phase) → is_well_formed M p ≡ true → p.shut ≡ false → ((w : ℕ) → doing p w ≡ Idle) → close_reply M p ≡ Accepted
+pub close-accepted : (M : Model) (p : Phase) → is_well_formed M p ≡ true → p.shut ≡ false → ((w : ℕ) → doing p w ≡ Idle) → close_reply M p ≡ Ok tt
 close-accepted M p formed up rest = rw (formed, up, (all-idle-says p.workers).1 rest)

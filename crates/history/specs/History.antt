@@ -1,7 +1,7 @@
 -- Lists of calls on one phase: each call gets the phase state that the last one returned, each turn also the table as the last turn left it, each order
 -- the list of orders that the opening was lent.
 -- The calls are the very definitions that the functions' contracts name.
-use Rattle.std.specs.Prelude.{Bool, true, false, cond, List, [], ◌∷◌, ◌++◌, ℕ, ◌+◌, ltb, get_or, set, replicate}
+use Rattle.std.specs.Prelude.{Bool, true, false, cond, List, [], ◌∷◌, ◌++◌, ℕ, ◌+◌, ltb, get_or, set, replicate, Ok, Err}
 use Rattle.ring.specs.Counting.{bit}
 use Rattle.homes.specs.declared.Hash.{Hash}
 use Rattle.orders.specs.Orders.{line_at}
@@ -13,10 +13,8 @@ use Rattle.rule.specs.Events.{Said, tells}
 use Rattle.state.specs.Model.{Model}
 use Rattle.state.specs.Open.{open_call}
 use Rattle.state.specs.declared.Phase.{Phase}
-use Rattle.state.specs.declared.Reply.{Reply}
-use Rattle.state.specs.declared.Reply.TheVariants.{Accepted, Refused}
-use Rattle.protocol.specs.declared.TurnReply.{TurnReply}
-use Rattle.protocol.specs.declared.TurnReply.TheVariants as turnReply
+use Rattle.state.specs.Replies.{Reply}
+use Rattle.protocol.specs.Replies.{TurnReply}
 use Rattle.protocol.specs.Calls.{asked, entry_for, close_call, order_call, turn_call, turn_table}
 
 pub data Call : Type 0 where
@@ -62,7 +60,7 @@ after_refusal t p s = record {
 }
 
 abbrev pub after_order : ℕ → ℕ → Phase → Reply → History → History
-after_order w e p Accepted s = record {
+after_order w e p (Ok _) s = record {
   table = s.table;
   phase = p;
   ordered = e ∷ s.ordered;
@@ -71,10 +69,10 @@ after_order w e p Accepted s = record {
   counted = s.counted;
   closed = s.closed;
 }
-after_order w e p (Refused r) s = after_refusal s.table p s
+after_order w e p (Err r) s = after_refusal s.table p s
 
 abbrev pub after_turn : ℕ → List ℕ → Phase → TurnReply → History → History
-after_turn w t p (turnReply.Answered a) s = record {
+after_turn w t p (Ok a) s = record {
   table = t;
   phase = p;
   ordered = s.ordered;
@@ -83,10 +81,10 @@ after_turn w t p (turnReply.Answered a) s = record {
   counted = bit (ltb 0 (get_or s.pending w 0)) + s.counted;
   closed = s.closed;
 }
-after_turn w t p (turnReply.Refused r) s = after_refusal t p s
+after_turn w t p (Err r) s = after_refusal t p s
 
 abbrev pub after_close : Phase → Reply → History → History
-after_close p Accepted s = record {
+after_close p (Ok _) s = record {
   table = s.table;
   phase = p;
   ordered = s.ordered;
@@ -95,16 +93,16 @@ after_close p Accepted s = record {
   counted = s.counted;
   closed = true;
 }
-after_close p (Refused r) s = after_refusal s.table p s
+after_close p (Err r) s = after_refusal s.table p s
 
 -- ---- what a turn's answer says of its worker: it had an unfinished order and went on or finished
 abbrev pub worked : TurnReply → Bool
-worked (turnReply.Answered WentOn) = true
-worked (turnReply.Answered Finished) = true
-worked (turnReply.Answered (Price q)) = true
-worked (turnReply.Answered No) = true
-worked (turnReply.Answered answer.Idle) = false
-worked (turnReply.Refused r) = false
+worked (Ok WentOn) = true
+worked (Ok Finished) = true
+worked (Ok (Price q)) = true
+worked (Ok No) = true
+worked (Ok answer.Idle) = false
+worked (Err r) = false
 
 module _ (M : Model) (os : List Order) where
   unfoldable pub call : Call → History → History

@@ -1,6 +1,6 @@
 -- Demand 3: what is promised of every list of order, turn and close calls from an accepted opening on, refused calls included, however the turns fall,
 -- each order call lent the list of the opening.
-use Rattle.std.specs.Prelude.{◌≡◌, ◌≢◌, ◌↔◌, ◌⊎◌, true, false, cond, List, [], ◌∷◌, ◌++◌, map, ℕ, ◌+◌, ◌≤◌, ◌<◌, T, eqb, length, get_or}
+use Rattle.std.specs.Prelude.{◌≡◌, ◌≢◌, ◌↔◌, ◌⊎◌, true, false, cond, List, [], ◌∷◌, ◌++◌, map, ℕ, ◌+◌, ◌≤◌, ◌<◌, T, eqb, length, get_or, Some, Ok}
 use Rattle.ring.specs.Counting.{count}
 use Rattle.layout.specs.Layout.{In}
 use Rattle.layout.specs.Sound.{Ordered}
@@ -9,7 +9,6 @@ use Rattle.prices.specs.Contents.{label, price, cell_ok}
 use Rattle.prices.specs.Priced.{labels, Least, SameLeast, priced_layout, without_labels}
 use Rattle.orders.specs.Orders.{blank}
 use Rattle.orders.specs.declared.Order.{Order}
-use Rattle.rule.specs.declared.Place.TheVariants.{At}
 use Rattle.activities.specs.Activities.{entry_of}
 use Rattle.rule.specs.Events.{Said}
 use Rattle.rule.specs.Rule.{touched}
@@ -20,7 +19,6 @@ use Rattle.activities.specs.declared.Activity.TheVariants.{Idle}
 use Rattle.activities.specs.declared.Worker.{Worker}
 use Rattle.state.specs.declared.Device.{Device}
 use Rattle.state.specs.declared.Phase.{Phase}
-use Rattle.state.specs.declared.Reply.TheVariants.{Accepted}
 use Rattle.protocol.specs.Bars.{doing}
 use Rattle.protocol.specs.Calls.{order_call, turn_check, turn_call, turn_table}
 use Rattle.protocol.specs.IsWellFormed.{is_well_formed}
@@ -95,7 +93,7 @@ module _ (M : Model) (k m : ℕ) (ab : Hash) (t : List ℕ) (os : List Order) (c
     pub listed : k ≡ 1 → (y : ℕ) → In y (after M k m ab t os cs).ordered → OfLine os y
     pub accepts : k ≡ 1 → (after M k m ab t os cs).closed ≡ false → (i : ℕ) → i < length os
         → doing (after M k m ab t os cs).phase (get_or os i blank).worker ≡ Idle
-        → (w v : ℕ) → (order_call M (after M k m ab t os cs).phase os i w v).reply ≡ Accepted
+        → (w v : ℕ) → (order_call M (after M k m ab t os cs).phase os i w v).reply ≡ Ok tt
     -- put in: every key's path holds only greater keys; the table's and the carried keys are those at opening and those ordered
     pub ordering : k ≡ 1 → Ordered (length t) (M.home ab (length t)) (labels label (after M k m ab t os cs).table)
     pub union : k ≡ 1 → (v : ℕ) → v ≢ 0
@@ -118,7 +116,7 @@ module _ (M : Model) (k m : ℕ) (ab : Hash) (t : List ℕ) (os : List Order) (c
 
 abbrev pub HistoryPromise : Type 0
 HistoryPromise =
-    (M : Model) → Proper M → (k m : ℕ) (ab : Hash) (t : List ℕ) (os : List Order) → open_reply M k m ab t os ≡ Accepted
+    (M : Model) → Proper M → (k m : ℕ) (ab : Hash) (t : List ℕ) (os : List Order) → open_reply M k m ab t os ≡ Ok tt
     → (cs : List Call) → Claim M k m ab t os cs
 
 -- ---- the same where every order call is lent a list of its own, altered or not: layout and bound are not promised, since the labels may be too many
@@ -141,12 +139,12 @@ module _ (M : Model) (k m : ℕ) (ab : Hash) (t : List ℕ) (os : List Order) (c
 
 abbrev pub AnyListsPromise : Type 0
 AnyListsPromise =
-    (M : Model) → Proper M → (k m : ℕ) (ab : Hash) (t : List ℕ) (os : List Order) → open_reply M k m ab t os ≡ Accepted
+    (M : Model) → Proper M → (k m : ℕ) (ab : Hash) (t : List ℕ) (os : List Order) → open_reply M k m ab t os ≡ Ok tt
     → (cs : List Lent) → AnyLists M k m ab t os cs
 
 -- ---- what a refused opening hands back stays as it is, whatever is called; and it is well formed within limits that allow 2 cells and one worker
 abbrev pub RefusedPromise : Type 0
-RefusedPromise = (M : Model) (k m : ℕ) (ab : Hash) (t : List ℕ) (os : List Order) → open_reply M k m ab t os ≢ Accepted → (cs : List Call)
+RefusedPromise = (M : Model) (k m : ℕ) (ab : Hash) (t : List ℕ) (os : List Order) → open_reply M k m ab t os ≢ (Ok tt) → (cs : List Call)
     → ((after M k m ab t os cs).phase ≡ refused_phase M) × (size_ok M 2 ≡ true → crew_ok M 1 ≡ true → is_well_formed M (after M k m ab t os cs).phase ≡ true)
 
 -- ---- without orders, from one opening on
@@ -157,7 +155,7 @@ pub record KeepsTable (M : Model) (k m : ℕ) (ab : Hash) (t : List ℕ) (os : L
   pub no_orders : (cs : List Call) → (after M k m ab t os cs).ordered ≡ [] → (after M k m ab t os cs).table ≡ t
 
 abbrev pub KeepsTablePromise : Type 0
-KeepsTablePromise = (M : Model) → Proper M → (k m : ℕ) (ab : Hash) (t : List ℕ) (os : List Order) → open_reply M k m ab t os ≡ Accepted
+KeepsTablePromise = (M : Model) → Proper M → (k m : ℕ) (ab : Hash) (t : List ℕ) (os : List Order) → open_reply M k m ab t os ≡ Ok tt
     → KeepsTable M k m ab t os
 
 -- ---- homes are computed alike in tables of n cells, as they are with equal a and b in models of one rule
@@ -170,7 +168,7 @@ SameHomes M M' ab ab' n = (x : ℕ) → M.home ab n x ≡ M'.home ab' n x
 abbrev pub Fixed : (M M' : Model) → Type 0
 Fixed M M' = (k k' m m' : ℕ) (ab ab' : Hash) (t t' : List ℕ) (os os' : List Order) → length t ≡ length t'
     → SameHomes M M' ab ab' (length t)
-    → open_reply M k m ab t os ≡ Accepted → open_reply M' k' m' ab' t' os' ≡ Accepted → (cs cs' : List Call)
+    → open_reply M k m ab t os ≡ Ok tt → open_reply M' k' m' ab' t' os' ≡ Ok tt → (cs cs' : List Call)
     → SameLeast label (entries_after k (after M k m ab t os cs).ordered t) (entries_after k' (after M' k' m' ab' t' os' cs').ordered t')
     → (after M k m ab t os cs).closed ≡ true → (after M' k' m' ab' t' os' cs').closed ≡ true
     → (after M k m ab t os cs).table ≡ (after M' k' m' ab' t' os' cs').table
@@ -184,7 +182,7 @@ FixedPromise = (M M' : Model) → Proper M → Proper M' → Fixed M M'
 abbrev pub OneTable : (M M' : Model) → Type 0
 OneTable M M' = (k m m' : ℕ) (ab ab' : Hash) (t : List ℕ) (os os' : List Order)
     → SameHomes M M' ab ab' (length t)
-    → open_reply M k m ab t os ≡ Accepted → open_reply M' k m' ab' t os' ≡ Accepted → (cs cs' : List Call)
+    → open_reply M k m ab t os ≡ Ok tt → open_reply M' k m' ab' t os' ≡ Ok tt → (cs cs' : List Call)
     → SameOrders k label (after M k m ab t os cs).ordered (after M' k m' ab' t os' cs').ordered
     → (after M k m ab t os cs).closed ≡ true → (after M' k m' ab' t os' cs').closed ≡ true
     → (after M k m ab t os cs).table ≡ (after M' k m' ab' t os' cs').table
@@ -195,7 +193,7 @@ OneTablePromise = (M M' : Model) → Proper M → Proper M' → OneTable M M'
 -- in the documents' models, twice in one or in one and the other, by one a and b: a table that both may open closes alike in both. Nothing is left to assume
 abbrev pub BothOneTable : Type 0
 BothOneTable = (d d' : Device) (k m m' : ℕ) (ab : Hash) (t : List ℕ) (os os' : List Order)
-    → open_reply (model_of d) k m ab t os ≡ Accepted → open_reply (model_of d') k m' ab t os' ≡ Accepted → (cs cs' : List Call)
+    → open_reply (model_of d) k m ab t os ≡ Ok tt → open_reply (model_of d') k m' ab t os' ≡ Ok tt → (cs cs' : List Call)
     → SameOrders k label (after (model_of d) k m ab t os cs).ordered (after (model_of d') k m' ab t os' cs').ordered
     → (after (model_of d) k m ab t os cs).closed ≡ true → (after (model_of d') k m' ab t os' cs').closed ≡ true
     → (after (model_of d) k m ab t os cs).table ≡ (after (model_of d') k m' ab t os' cs').table
@@ -205,15 +203,15 @@ pub record Alike (M : Model) (p q : Phase) (t u : List ℕ) (w z : ℕ) : Type 0
   -- they answer alike, and leave the worker's record and the cell alike
   pub replies : (turn_call M p t w).reply ≡ (turn_call M q u z).reply
   pub records : doing (turn_call M p t w).phase w ≡ doing (turn_call M q u z).phase z
-  pub cells : (c : ℕ) → touched (doing p w) ≡ At c → get_or (turn_table M p t w) c 0 ≡ get_or (turn_table M q u z) c 0
+  pub cells : (c : ℕ) → touched (doing p w) ≡ Some c → get_or (turn_table M p t w) c 0 ≡ get_or (turn_table M q u z) c 0
   -- no other cell or worker's record changes
-  pub other_cells : (c : ℕ) → touched (doing p w) ≢ At c → get_or (turn_table M p t w) c 0 ≡ get_or t c 0
+  pub other_cells : (c : ℕ) → touched (doing p w) ≢ Some c → get_or (turn_table M p t w) c 0 ≡ get_or t c 0
   pub other_workers : (v : ℕ) → v ≢ w → doing (turn_call M p t w).phase v ≡ doing p v
   pub sized : length (turn_table M p t w) ≡ length t
 
 abbrev pub TwoTurns : Model → Type 0
-TwoTurns M = (p q : Phase) (t u : List ℕ) (w z : ℕ) → turn_check M p t w ≡ Accepted → turn_check M q u z ≡ Accepted
-    → p.kind ≡ q.kind → p.hash ≡ q.hash → length t ≡ length u → doing p w ≡ doing q z → ((c : ℕ) → touched (doing p w) ≡ At c → get_or t c 0 ≡ get_or u c 0)
+TwoTurns M = (p q : Phase) (t u : List ℕ) (w z : ℕ) → turn_check M p t w ≡ Ok tt → turn_check M q u z ≡ Ok tt
+    → p.kind ≡ q.kind → p.hash ≡ q.hash → length t ≡ length u → doing p w ≡ doing q z → ((c : ℕ) → touched (doing p w) ≡ Some c → get_or t c 0 ≡ get_or u c 0)
     → Alike M p q t u w z
 
 abbrev pub TwoTurnsPromise : Type 0

@@ -1,67 +1,45 @@
-// Lists of orders that are lent as slices of orders: a line by its number, and the check of the lines.
+// Lists of orders that are lent, in whatever form, and the check of their lines.
 #![tactic(auto)]
 
-ghost use Rattle.std.specs.Prelude.{◌≡◌, true, false, cond, eqb};
-ghost use Rattle.orders.specs.Orders.{blank, line_at, line_fault, lines_fault};
+ghost use Rattle.std.specs.Prelude.{◌≡◌, List, length};
+ghost use Rattle.orders.specs.declared.Order.{Order};
+ghost use Rattle.orders.specs.Orders.{line_at, lines_fault};
 
-use orders::{Found, Order};
-use parallel::line_fault;
+use orders::{Fault, Order};
 
-fn found_line(order: Order) -> Found
-    ensures { result ≡ record { there = true; order = order } }
-{
-    Found {
-        there: true,
-        order: order,
+// A list of orders, in whatever form it is lent.
+pub trait Lines: Copy {
+    ghost orders: { Self → List Order };
+
+    // How many lines it has.
+    fn count(&self) -> usize
+        ensures { result ≡ length (orders self.now) };
+
+    // Its line `i`, if it has one.
+    fn line(&self, i: usize) -> Option<Order>
+        ensures { result ≡ line_at (orders self.now) i };
+}
+
+// Lent as a slice of orders.
+impl<'a> Lines for &'a [Order] {
+    ghost orders = { λ list. list.now };
+
+    fn count(&self) -> usize {
+        self.len()
+    }
+
+    fn line(&self, i: usize) -> Option<Order> {
+        self.get(i).copied()
     }
 }
 
-// What stands where there is no line.
-pub fn no_line() -> Found
-    ensures { result ≡ record { there = false; order = blank } }
-{
-    Found {
-        there: false,
-        order: Order {
-            key: 0,
-            price: 0,
-            worker: 0,
-        },
-    }
-}
-
-// What the list has at line `i`.
-#[tactic(auto, using(parallel::proofs::Lines::found_rules))]
-pub fn line_at(orders: &[Order], i: usize) -> Found
-    ensures { result ≡ line_at orders.now i }
-{
-    if i < orders.len() {
-        return found_line(orders[i]);
-    }
-    no_line()
-}
-
-// What was found earlier, or else what is wrong with the next line.
-#[tactic(auto, using(std::proofs::lemmas::Bool::Decides::nat_tests))]
-fn fault_after(fault: u32, order: Order, crew: u32) -> u32
-    ensures { result ≡ cond (eqb fault 0) (line_fault crew order) fault }
-{
-    if fault == 0 {
-        return line_fault(order, crew);
-    }
-    fault
-}
-
-// What is wrong with the earliest line that is not good, by its number; 0 if all are good.
+// What is wrong with the earliest line that is not good.
 #[tactic(auto, using(crate::proofs::Faults::fault_rules))]
-pub fn lines_fault(orders: &[Order], crew: u32) -> u32
-    ensures { result ≡ lines_fault crew orders.now }
+pub fn lines_fault<L: Lines>(list: L, crew: u32) -> Result<(), Fault>
+    ensures { result ≡ lines_fault crew (L.orders list) }
 {
-    let mut fault: u32 = 0;
-    let mut i: usize = 0;
-    while i < orders.len() {
-        fault = fault_after(fault, orders[i], crew);
-        i += 1;
+    for i in 0..list.count() {
+        list.line(i).unwrap().check(crew)?;
     }
-    fault
+    Ok(())
 }

@@ -7,6 +7,7 @@ use native.Mathlib.Omega.{arith}
 use borrow.Author.Tests.{le-leb, lt-leb}
 use lib.ListN.{length, get_or, take, set, replicate, length-append, length-map}
 use lib.Seq.{append_snoc, set-append_seam, take-append_seam}
+use Rattle.std.specs.Prelude.{None, Some}
 use Rattle.text.specs.Numbers.{greatest_number, longest_number, value_of, is_number}
 use Rattle.text.specs.Digits.{digits_of}
 use Rattle.text.proofs.Test.{by-test, by-lt, both_true}
@@ -14,24 +15,24 @@ use Rattle.text.specs.Promise.{Tabless}
 use Rattle.text.proofs.Fields.{width}
 use Rattle.text.proofs.Values.{number-parts}
 use Rattle.text.proofs.Digits.{number-of-digits, tabless-digits, number-back, short-number}
-use Rattle.lines.specs.Grammar.{most_numbers, padded, numbered, unreadable, are_numbers, numbers_of}
+use Rattle.lines.specs.Grammar.{most_numbers, padded, numbered, are_numbers, numbers_of}
 
 -- ---- readable or not
 module _ (fs : List (List ℕ)) where
-  pub numbers-many : most_numbers < length fs → numbers_of fs ≡ unreadable
+  pub numbers-many : most_numbers < length fs → numbers_of fs ≡ None
   unfolding numbers_of
   numbers-many h = rw (lt-leb (length fs) most_numbers h)
 
-  pub numbers-all : length fs ≤ most_numbers → are_numbers fs ≡ true → numbers_of fs ≡ numbered (map value_of fs)
+  pub numbers-all : length fs ≤ most_numbers → are_numbers fs ≡ true → numbers_of fs ≡ Some (numbered (map value_of fs))
   unfolding numbers_of
   numbers-all h e = rw (le-leb (length fs) most_numbers h, e)
 
-  pub numbers-wrong : are_numbers fs ≡ false → numbers_of fs ≡ unreadable
+  pub numbers-wrong : are_numbers fs ≡ false → numbers_of fs ≡ None
   unfolding numbers_of
   numbers-wrong e = simp (e, and-false)
 
   -- they are readable, or none are
-  pub by-numbers {ℓ} : {C : Type ℓ} → (length fs ≤ most_numbers → are_numbers fs ≡ true → C) → (numbers_of fs ≡ unreadable → C) → C
+  pub by-numbers {ℓ} : {C : Type ℓ} → (length fs ≤ most_numbers → are_numbers fs ≡ true → C) → (numbers_of fs ≡ None → C) → C
   by-numbers f g = by-lt most_numbers (length fs)
       (λ h. g (numbers-many h))
       (λ h. by-test (are_numbers fs) (f h) (λ e. g (numbers-wrong e)))

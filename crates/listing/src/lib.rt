@@ -19,13 +19,11 @@ fn full_occupancy(group: &[u64]) -> u64
     requires { length group.now ≡ 64 }
     ensures { result ≡ word_of group.now }
 {
-    let mut i: usize = 64;
     let mut even: u64 = 0;
     let mut odd: u64 = 0;
-    while 0 < i {
-        i -= 2;
-        even = 4 * even + taken_bit(group[i]);
-        odd = 4 * odd + taken_bit(group[i + 1]);
+    for pair in (0..32).rev() {
+        even = 4 * even + taken_bit(group[2 * pair]);
+        odd = 4 * odd + taken_bit(group[2 * pair + 1]);
     }
     even + 2 * odd
 }
@@ -35,13 +33,11 @@ fn occupancy(group: &[u64]) -> u64
     requires { length group.now ≤ 64 }
     ensures { result ≡ word_of group.now }
 {
-    let mut i = group.len();
-    if 63 < i {
+    if group.len() == 64 {
         return full_occupancy(group);
     }
     let mut word: u64 = 0;
-    while 0 < i {
-        i -= 1;
+    for i in (0..group.len()).rev() {
         word = 2 * word + taken_bit(group[i]);
     }
     word
@@ -79,12 +75,9 @@ fn group_of(cells: &[u64], g: usize) -> &[u64]
 pub fn count_keys(cells: &[u64]) -> usize
     ensures { result ≡ count_of cells.now }
 {
-    let groups = group_count(cells);
     let mut count: usize = 0;
-    let mut g: usize = 0;
-    while g < groups {
+    for g in 0..group_count(cells) {
         count += ones_of(group_of(cells, g));
-        g += 1;
     }
     count
 }
@@ -120,11 +113,8 @@ pub fn list_entries(cells: &[u64], out: &mut [u64])
     requires { count_of cells.now ≤ length out.old }
     ensures { out.new ≡ filled cells.now out.old }
 {
-    let groups = group_count(cells);
     let mut place: usize = 0;
-    let mut g: usize = 0;
-    while g < groups {
+    for g in 0..group_count(cells) {
         place += list_group(group_of(cells, g), &mut out[place..]);
-        g += 1;
     }
 }

@@ -1,13 +1,14 @@
 // The calls on a migration (document 02: move shift): opening, order, turn and close, by value. Each is told the model by whose limits it is tested.
 #![tactic(auto, using(std::proofs::lemmas::Bool::Decides::nat_tests))]
 
-ghost use Rattle.std.specs.Prelude.{◌≡◌, true, cond, ◌<◌, length};
+ghost use Rattle.std.specs.Prelude.{◌≡◌, true, ◌<◌, length};
 ghost use Rattle.prices.specs.Contents.{label};
 ghost use Rattle.activities.specs.Activities.{activity_ok};
 ghost use Rattle.state.specs.Model.{gateway, model_of};
 ghost use Rattle.protocol.specs.Split.{one_turn, one_cells};
+ghost use Rattle.state.specs.Refusals.{first_of};
 ghost use Rattle.migration.specs.Tasks.{is_free, task_ok, fetched, inserted, one_carry, old_after, new_after};
-ghost use Rattle.migration.specs.Calls.{all_free, numbers_ok, is_well_formed, all_empty, is_unfit, fresh, refused_migration, sizes_ok, open_call, order_call, close_call, turn_call, turn_old, turn_new};
+ghost use Rattle.migration.specs.Calls.{all_free, numbers_ok, is_well_formed, all_empty, is_unfit, fresh, sizes_ok, open_reply, open_call, state_bars, order_reply, order_call, close_reply, close_call, turn_check, turn_call, turn_old, turn_new};
 
 use activities::{Activity, Worker};
 use calls::one_turn;
@@ -16,9 +17,8 @@ use homes::Hash;
 use listing::count_keys;
 use migration::{Carried, Carrier, Migrated, Migration, Stepped, Task};
 use prices::PRICES;
-use protocol::TurnReply;
 use rule::Answer;
-use state::{Device, Phase, Refusal, Reply};
+use state::{Device, Phase, Refusal};
 
 // ---- tasks
 // Whether a worker has no order.
@@ -41,122 +41,65 @@ fn task_ok(source: u32, length: u32, task: Task) -> bool
     }
 }
 
-// The same of a worker below the worker count or past it.
-fn carrier_ok(source: u32, length: u32, active: bool, task: Task) -> bool
-    ensures { result ≡ cond active (task_ok source length task) (is_free task) }
-{
-    if active {
-        task_ok(source, length, task)
-    } else {
-        is_free(task)
-    }
-}
-
 // ---- the state of a migration
 // Whether two tables may have these lengths.
 fn sizes_ok(device: Device, source: usize, length: usize) -> bool
     ensures { result ≡ sizes_ok (model_of device) source length }
 {
-    if Phase::size_ok(device, source) {
-        Phase::size_ok(device, length)
-    } else {
-        false
-    }
+    Phase::size_ok(device, source) && Phase::size_ok(device, length)
 }
 
 // Whether the numbers of a migration are within the bounds of a model.
 fn numbers_ok(device: Device, kind: u32, source: u32, length: u32, crew: u32, next: u32) -> bool
     ensures { result ≡ numbers_ok (model_of device) kind source length crew next }
 {
-    if kind != 4 {
-        return false;
-    }
-    if !Phase::size_ok(device, source as usize) {
-        return false;
-    }
-    if !Phase::size_ok(device, length as usize) {
-        return false;
-    }
-    if !Phase::crew_ok(device, crew as usize) {
-        return false;
-    }
-    next <= source
+    kind == 4
+        && sizes_ok(device, source as usize, length as usize)
+        && Phase::crew_ok(device, crew as usize)
+        && next <= source
 }
 
 // Whether a migration is not spoilt, in document 01's word, to a model.
-#[tactic(auto, using(crate::proofs::Walking::formed_rules))]
-fn is_well_formed(device: Device, migration: Migration) -> bool
-    ensures { result ≡ is_well_formed (model_of device) migration }
+#[tactic(auto, unfolding(migration::specs::Calls::is_well_formed))]
+fn is_well_formed(device: Device, migration: &Migration) -> bool
+    ensures { result ≡ is_well_formed (model_of device) migration.now }
 {
-    if !numbers_ok(
+    numbers_ok(
         device,
         migration.kind,
         migration.source,
         migration.length,
         migration.crew,
         migration.next,
-    ) {
-        return false;
-    }
-    let mut i: usize = 0;
-    while i < Phase::ROOM {
-        let carrier = migration.carriers[i];
-        let task = carrier.task;
-        if !carrier_ok(
-            migration.source,
-            migration.length,
-            i < migration.crew as usize,
-            task,
-        ) {
-            return false;
+    ) && migration.carriers.iter().enumerate().all(|(i, carrier)| {
+        if i < migration.crew as usize {
+            task_ok(migration.source, migration.length, carrier.task)
+        } else {
+            is_free(carrier.task)
         }
-        i += 1;
-    }
-    true
+    })
 }
 
 // Whether no worker has an order.
-#[tactic(auto, using(crate::proofs::Walking::free_rules))]
-fn all_free(carriers: [Carrier; Phase::ROOM]) -> bool
-    ensures { result ≡ all_free carriers }
+fn all_free(carriers: &[Carrier]) -> bool
+    ensures { result ≡ all_free carriers.now }
 {
-    let mut i: usize = 0;
-    while i < Phase::ROOM {
-        let carrier = carriers[i];
-        let task = carrier.task;
-        if !is_free(task) {
-            return false;
-        }
-        i += 1;
-    }
-    true
+    carriers.iter().all(|carrier| is_free(carrier.task))
 }
 
 // ---- opening
 // Whether all cells of a table are empty.
-#[tactic(auto, using(crate::proofs::Walking::empty_rules))]
 fn all_empty(cells: &[u64]) -> bool
     ensures { result ≡ all_empty cells.now }
 {
-    let mut i: usize = 0;
-    while i < cells.len() {
-        if cells[i] != 0 {
-            return false;
-        }
-        i += 1;
-    }
-    true
+    cells.iter().all(|content| *content == 0)
 }
 
 // Whether the new table is not all empty, or has no more cells than the old one has keys.
 fn is_unfit(old: &[u64], new: &[u64]) -> bool
     ensures { result ≡ is_unfit old.now new.now }
 {
-    if all_empty(new) {
-        new.len() <= count_keys(old)
-    } else {
-        true
-    }
+    !all_empty(new) || new.len() <= count_keys(old)
 }
 
 // A migration with no cell handed out and no order. It is the same in each model.
@@ -180,83 +123,97 @@ fn fresh(source: u32, length: u32, crew: u32, shut: bool, hash: Hash) -> Migrati
     }
 }
 
-// What a refused opening hands back.
-fn unopened(why: Refusal) -> Migrated
-    ensures { result ≡ record { migration = refused_migration gateway; reply = Reply.Refused why } }
+// Whether a migration may be opened or, if it may not, why.
+fn open_reply(
+    device: Device,
+    crew: u64,
+    hash: Hash,
+    old: &[u64],
+    new: &[u64],
+) -> Result<(), Refusal>
+    ensures { result ≡ open_reply (model_of device) crew hash old.now new.now }
 {
-    Migrated {
-        migration: fresh(2, 2, 1, true, Hash { a: 1, b: 0 }),
-        reply: Reply::Refused(why),
+    if !sizes_ok(device, old.len(), new.len()) {
+        return Err(Refusal::Size);
     }
+    if !Phase::crew_ok(device, crew as usize) {
+        return Err(Refusal::Crew);
+    }
+    Phase::check(device, hash, old)?;
+    if is_unfit(old, new) {
+        return Err(Refusal::Unfit);
+    }
+    Ok(())
 }
 
 // Opens a migration with a crew of so many workers and a hash function, from an old table to a new one.
-#[tactic(auto, using(crate::proofs::Walking::open_rules))]
 pub fn open(device: Device, crew: u64, hash: Hash, old: &[u64], new: &[u64]) -> Migrated
     ensures { result ≡ open_call (model_of device) crew hash old.now new.now }
 {
-    if !sizes_ok(device, old.len(), new.len()) {
-        return unopened(Refusal::Size);
+    match open_reply(device, crew, hash, old, new) {
+        Ok(()) => Migrated {
+            migration: fresh(old.len() as u32, new.len() as u32, crew as u32, false, hash),
+            reply: Ok(()),
+        },
+        Err(why) => Migrated {
+            migration: fresh(2, 2, 1, true, Hash { a: 1, b: 0 }),
+            reply: Err(why),
+        },
     }
-    if !Phase::crew_ok(device, crew as usize) {
-        return unopened(Refusal::Crew);
+}
+
+// ---- the other calls
+// What each of them asks of the migration: that it is not spoilt, and not shut.
+fn check_state(device: Device, migration: &Migration) -> Result<(), Refusal>
+    ensures { result ≡ first_of (state_bars (model_of device) migration.now) }
+{
+    if !is_well_formed(device, migration) {
+        return Err(Refusal::Spoilt);
     }
-    let sound = Phase::check(device, hash, old);
-    match sound {
-        Reply::Refused(why) => unopened(why),
-        Reply::Accepted => {
-            if is_unfit(old, new) {
-                return unopened(Refusal::Unfit);
-            }
-            Migrated {
-                migration: fresh(old.len() as u32, new.len() as u32, crew as u32, false, hash),
-                reply: Reply::Accepted,
-            }
-        }
+    if migration.shut {
+        return Err(Refusal::Shut);
     }
+    Ok(())
 }
 
 // ---- order
-// The migration as it is, with a refusal.
-fn refused(migration: Migration, why: Refusal) -> Migrated
-    ensures { result ≡ record { migration = migration; reply = Reply.Refused why } }
+// Whether a worker may be given an order or, if it may not, why.
+fn order_reply(device: Device, migration: &Migration, worker: usize) -> Result<(), Refusal>
+    ensures { result ≡ order_reply (model_of device) migration.now worker }
 {
-    Migrated {
-        migration,
-        reply: Reply::Refused(why),
+    check_state(device, migration)?;
+    if migration.crew as usize <= worker {
+        return Err(Refusal::NoWorker);
     }
+    if !is_free(migration.carriers[worker].task) {
+        return Err(Refusal::Busy);
+    }
+    if migration.source <= migration.next {
+        return Err(Refusal::Full);
+    }
+    Ok(())
 }
 
 // A worker takes the next old cell.
-#[tactic(auto, using(crate::proofs::Walking::order_rules))]
 pub fn order(device: Device, mut migration: Migration, worker: usize) -> Migrated
     ensures { result ≡ order_call (model_of device) migration worker }
 {
-    if !is_well_formed(device, migration) {
-        return refused(migration, Refusal::Spoilt);
-    }
-    if migration.shut {
-        return refused(migration, Refusal::Shut);
-    }
-    if migration.crew as usize <= worker {
-        return refused(migration, Refusal::NoWorker);
-    }
-    let carrier = migration.carriers[worker];
-    let task = carrier.task;
-    if !is_free(task) {
-        return refused(migration, Refusal::Busy);
-    }
-    let cell = migration.next;
-    if migration.source <= cell {
-        return refused(migration, Refusal::Full);
-    }
-    migration.carriers[worker] = Carrier {
-        task: Task::Fetching { cell },
-    };
-    migration.next = cell + 1;
-    Migrated {
-        migration,
-        reply: Reply::Accepted,
+    match order_reply(device, &migration, worker) {
+        Ok(()) => {
+            let cell = migration.next;
+            migration.carriers[worker] = Carrier {
+                task: Task::Fetching { cell },
+            };
+            migration.next = cell + 1;
+            Migrated {
+                migration,
+                reply: Ok(()),
+            }
+        }
+        Err(why) => Migrated {
+            migration,
+            reply: Err(why),
+        },
     }
 }
 
@@ -274,7 +231,7 @@ fn fetch(hash: Hash, length: u32, content: u64) -> Carried
                     activity: Activity::Idle,
                 },
             },
-            reply: TurnReply::Answered(Answer::Finished),
+            reply: Ok(Answer::Finished),
         };
     }
     let cell = homes::home(hash, length, (content / PRICES) as u32);
@@ -287,7 +244,7 @@ fn fetch(hash: Hash, length: u32, content: u64) -> Carried
                 },
             },
         },
-        reply: TurnReply::Answered(Answer::WentOn),
+        reply: Ok(Answer::WentOn),
     }
 }
 
@@ -298,14 +255,13 @@ fn insert(hash: Hash, size: u32, new: &mut [u64], activity: Activity) -> Carried
         × (new.new ≡ one_cells gateway 1 hash size new.old (record { activity = activity })) }
 {
     let moved = one_turn(1, hash, size, new, Worker { activity });
-    let worker = moved.worker;
-    let next = worker.activity;
-    let reply = moved.reply;
     Carried {
         carrier: Carrier {
-            task: Task::Inserting { activity: next },
+            task: Task::Inserting {
+                activity: moved.worker.activity,
+            },
         },
-        reply,
+        reply: moved.reply,
     }
 }
 
@@ -323,18 +279,27 @@ fn one_carry(hash: Hash, size: u32, old: &[u64], new: &mut [u64], task: Task) ->
     }
 }
 
-// The migration as it is, with a refusal.
-fn turn_refused(migration: Migration, why: Refusal) -> Stepped
-    ensures { result ≡ record { migration = migration; reply = TurnReply.Refused why } }
+// Whether a worker may take a turn on these tables or, if it may not, why.
+fn turn_check(
+    device: Device,
+    migration: &Migration,
+    old: &[u64],
+    new: &[u64],
+    worker: usize,
+) -> Result<(), Refusal>
+    ensures { result ≡ turn_check (model_of device) migration.now old.now new.now worker }
 {
-    Stepped {
-        migration,
-        reply: TurnReply::Refused(why),
+    check_state(device, migration)?;
+    if migration.source as usize != old.len() || migration.length as usize != new.len() {
+        return Err(Refusal::OtherTable);
     }
+    if migration.crew as usize <= worker {
+        return Err(Refusal::NoWorker);
+    }
+    Ok(())
 }
 
 // A turn of one worker, which touches one cell of one of the two tables.
-#[tactic(auto, using(crate::proofs::Walking::turn_rules))]
 pub fn turn(
     device: Device,
     mut migration: Migration,
@@ -346,50 +311,49 @@ pub fn turn(
         × (old.now ≡ turn_old (model_of device) migration old.now new.old worker)
         × (new.new ≡ turn_new (model_of device) migration old.now new.old worker) }
 {
-    if !is_well_formed(device, migration) {
-        return turn_refused(migration, Refusal::Spoilt);
+    match turn_check(device, &migration, old, new, worker) {
+        Ok(()) => {
+            let task = migration.carriers[worker].task;
+            let carried = one_carry(migration.hash, migration.length, old, new, task);
+            migration.carriers[worker] = carried.carrier;
+            Stepped {
+                migration,
+                reply: carried.reply,
+            }
+        }
+        Err(why) => Stepped {
+            migration,
+            reply: Err(why),
+        },
     }
-    if migration.shut {
-        return turn_refused(migration, Refusal::Shut);
-    }
-    if migration.source as usize != old.len() {
-        return turn_refused(migration, Refusal::OtherTable);
-    }
-    if migration.length as usize != new.len() {
-        return turn_refused(migration, Refusal::OtherTable);
-    }
-    if migration.crew as usize <= worker {
-        return turn_refused(migration, Refusal::NoWorker);
-    }
-    let carrier = migration.carriers[worker];
-    let task = carrier.task;
-    let carried = one_carry(migration.hash, migration.length, old, new, task);
-    let next = carried.carrier;
-    let reply = carried.reply;
-    migration.carriers[worker] = next;
-    Stepped { migration, reply }
 }
 
 // ---- close
+// Whether a migration may be closed or, if it may not, why: an order is unfinished, or an old cell remains.
+fn close_reply(device: Device, migration: &Migration) -> Result<(), Refusal>
+    ensures { result ≡ close_reply (model_of device) migration.now }
+{
+    check_state(device, migration)?;
+    if !all_free(&migration.carriers) || migration.next < migration.source {
+        return Err(Refusal::Working);
+    }
+    Ok(())
+}
+
 pub fn close(device: Device, mut migration: Migration) -> Migrated
     ensures { result ≡ close_call (model_of device) migration }
 {
-    let carriers = migration.carriers;
-    if !is_well_formed(device, migration) {
-        return refused(migration, Refusal::Spoilt);
-    }
-    if migration.shut {
-        return refused(migration, Refusal::Shut);
-    }
-    if !all_free(carriers) {
-        return refused(migration, Refusal::Working);
-    }
-    if migration.next < migration.source {
-        return refused(migration, Refusal::Working);
-    }
-    migration.shut = true;
-    Migrated {
-        migration,
-        reply: Reply::Accepted,
+    match close_reply(device, &migration) {
+        Ok(()) => {
+            migration.shut = true;
+            Migrated {
+                migration,
+                reply: Ok(()),
+            }
+        }
+        Err(why) => Migrated {
+            migration,
+            reply: Err(why),
+        },
     }
 }

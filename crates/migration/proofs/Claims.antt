@@ -1,4 +1,5 @@
 -- What is known of the insert phase that a migration follows, said of the migration.
+use Rattle.std.specs.Prelude.{Ok, Err}
 use mathlib.Core.Path.{◌≡◌, refl, sym, ap, subst, ◌∙◌}
 use mathlib.Core.Logic.Iff
 use mathlib.Core.Logic.{◌≢◌, ◌↔◌, ◌⊎◌, inl, inr, ⊎_elim}
@@ -34,10 +35,8 @@ use Rattle.phases.specs.Promise.{most_steps, Always, Roomy, PricesOk, Phases, St
 use Rattle.determinism.proofs.Closing.{stays-sound}
 use Rattle.determinism.proofs.Theorem as determinism
 use Rattle.state.specs.Model.{Model, Proper}
-use Rattle.state.specs.declared.Reply.TheVariants.{Accepted}
 use Rattle.protocol.specs.Promise.{SoundIn}
-use Rattle.protocol.specs.declared.TurnReply.{TurnReply}
-use Rattle.protocol.specs.declared.TurnReply.TheVariants as turnReply
+use Rattle.protocol.specs.Replies.{TurnReply}
 use Rattle.protocol.proofs.Chain.{by-reply}
 use Rattle.history.specs.History.{worked}
 use Rattle.history.proofs.Standing.{same-behind, standing}
@@ -66,7 +65,7 @@ load_is : (a : Task) → load_of a ≡ entry_of (inserting a)
 load_is (Fetching c) = refl
 load_is (Inserting a) = refl
 
-module _ (M : Model) (proper : Proper M) (m : ℕ) (ab : Hash) (old new : List ℕ) (accepted : open_reply M m ab old new ≡ Accepted) where
+module _ (M : Model) (proper : Proper M) (m : ℕ) (ab : Hash) (old new : List ℕ) (accepted : open_reply M m ab old new ≡ Ok tt) where
   passed : OpenPassed M m ab old new
   passed = open-passed M proper m ab old new accepted
 
@@ -277,7 +276,7 @@ module _ (M : Model) (proper : Proper M) (m : ℕ) (ab : Hash) (old new : List �
     formed = (well-formed-says M s.migration).1 well-formed
 
     -- a free worker's order is accepted while old cells remain
-    pub accepts : s.closed ≡ false → s.accepted < length old → (w : ℕ) → w < m → task_at s.migration w ≡ free → (order_call M s.migration w).reply ≡ Accepted
+    pub accepts : s.closed ≡ false → s.accepted < length old → (w : ℕ) → w < m → task_at s.migration w ≡ free → (order_call M s.migration w).reply ≡ Ok tt
     accepts up remains w low is =
         let p = s.migration in
         let running : p.shut ≡ false = f.shut ∙ up in
@@ -291,8 +290,8 @@ module _ (M : Model) (proper : Proper M) (m : ℕ) (ab : Hash) (old new : List �
 -- what a turn's answer adds, if it is not refused
 turn-adds : (w : ℕ) (u t : List ℕ) (p : Migration) (r : TurnReply) (s : Course) → bit (worked r) ≡ bit (get_or s.unfinished w false)
     → (after_turn w u t p r s).counted ≡ bit (worked r) + s.counted
-turn-adds w u t p (turnReply.Answered a) s e = omega arith
-turn-adds w u t p (turnReply.Refused r) s e = omega arith
+turn-adds w u t p (Ok a) s e = omega arith
+turn-adds w u t p (Err r) s e = omega arith
 
 module _ (M : Model) (l m : ℕ) (ab : Hash) (old : List ℕ) where
   pub turn-counts : (w : ℕ) (s : Course) (r : Run) → Follows l m ab old s r

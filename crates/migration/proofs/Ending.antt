@@ -1,5 +1,6 @@
 -- Rounds of visits, in each of which every worker gets an order and a turn, end with an accepted close: each visit gets an order accepted or a turn counted,
 -- or changes nothing since its worker is free and no old cell remains; and both numbers are bounded.
+use Rattle.std.specs.Prelude.{Ok, Err}
 use mathlib.Core.Path.{◌≡◌, refl, sym, ap, subst, ◌∙◌}
 use mathlib.Core.Logic.{◌≢◌, ◌⊎◌, inl, inr, ⊎_elim}
 use mathlib.Core.Bool.{true, false}
@@ -17,9 +18,7 @@ use Rattle.rule.specs.Events as events
 use Rattle.rule.specs.Events.{Event}
 use Rattle.state.specs.Model.{Model, Proper}
 use Rattle.state.specs.declared.Refusal.{Refusal}
-use Rattle.state.specs.declared.Reply.TheVariants.{Accepted, Refused}
-use Rattle.protocol.specs.declared.TurnReply.{TurnReply}
-use Rattle.protocol.specs.declared.TurnReply.TheVariants as turnReply
+use Rattle.protocol.specs.Replies.{TurnReply}
 use Rattle.protocol.proofs.Chain.{by-reply}
 use Rattle.migration.specs.Calls.{task_at, is_well_formed, open_reply, order_reply, close_reply, turn_check, turn_call, turn_old, turn_new}
 use Rattle.migration.specs.Claim.{most_turns, visits, rounds}
@@ -37,8 +36,8 @@ use Rattle.migration.proofs.TwoTurns.{turn-told}
 -- what a turn leaves of the numbers, whatever it answers
 answer-leaves : (w : ℕ) (u t : List ℕ) (p : Migration) (r : TurnReply) (s : Course)
     → ((after_turn w u t p r s).accepted ≡ s.accepted) × (s.counted ≤ (after_turn w u t p r s).counted)
-answer-leaves w u t p (turnReply.Answered a) s = (refl, omega arith)
-answer-leaves w u t p (turnReply.Refused r) s = (refl, omega arith)
+answer-leaves w u t p (Ok a) s = (refl, omega arith)
+answer-leaves w u t p (Err r) s = (refl, omega arith)
 
 -- what rises: the accepted orders and the counted turns
 abbrev progress : Course → ℕ
@@ -66,11 +65,11 @@ module _ (M : Model) where
   shut-stays (c ∷ cs) s shut = ap (run M cs) (shut-call c s shut) ∙ shut-stays cs s shut
 
   -- ---- the numbers do not fall
-  order-rises : (w : ℕ) (s : Course) → order_reply M s.migration w ≡ Accepted → progress (call M (order w) s) ≡ suc (progress s)
+  order-rises : (w : ℕ) (s : Course) → order_reply M s.migration w ≡ Ok tt → progress (call M (order w) s) ≡ suc (progress s)
   unfolding call
   order-rises w s e = rw e (omega arith)
 
-  order-refused : (w : ℕ) (s : Course) (q : Refusal) → order_reply M s.migration w ≡ Refused q → call M (order w) s ≡ s
+  order-refused : (w : ℕ) (s : Course) (q : Refusal) → order_reply M s.migration w ≡ Err q → call M (order w) s ≡ s
   unfolding call
   order-refused w s q e = rw e
 
@@ -98,7 +97,7 @@ module _ (M : Model) where
   visits-run (suc w) cs s = visits-run w (order w ∷ turn w ∷ cs) s
 
 -- ---- of a migration opened with m workers
-module _ (M : Model) (proper : Proper M) (m : ℕ) (ab : Hash) (old new : List ℕ) (accepted : open_reply M m ab old new ≡ Accepted) where
+module _ (M : Model) (proper : Proper M) (m : ℕ) (ab : Hash) (old new : List ℕ) (accepted : open_reply M m ab old new ≡ Ok tt) where
   -- some list of calls leads to s
   abbrev Reached : Course → Type 0
   Reached s = (cs : List Call) × (after M m ab old new cs ≡ s)
@@ -139,7 +138,7 @@ module _ (M : Model) (proper : Proper M) (m : ℕ) (ab : Hash) (old new : List �
 
     -- ---- a visit
     -- the turn of worker w is not refused before the close
-    turn-accepted : s.closed ≡ false → (w : ℕ) → w < m → turn_check M s.migration s.old s.new w ≡ Accepted
+    turn-accepted : s.closed ≡ false → (w : ℕ) → w < m → turn_check M s.migration s.old s.new w ≡ Ok tt
     turn-accepted up w low =
         let p = s.migration in
         let f = (followed s h).1 in
@@ -173,7 +172,7 @@ module _ (M : Model) (proper : Proper M) (m : ℕ) (ab : Hash) (old new : List �
         by-reply (turn_check M p s.old s.new w) (λ e. rw (e, is, put_back M p s.old s.new w is, none)) (λ _ e. rw e)
 
     -- an order is refused to a free worker only if no old cell remains
-    none_left : s.closed ≡ false → (w : ℕ) → w < m → task_at s.migration w ≡ free → (q : Refusal) → order_reply M s.migration w ≡ Refused q
+    none_left : s.closed ≡ false → (w : ℕ) → w < m → task_at s.migration w ≡ free → (q : Refusal) → order_reply M s.migration w ≡ Err q
         → length old ≤ s.accepted
     none_left up w low is q e = by-lt s.accepted (length old)
         (λ more. let (es, f) = followed s h in

@@ -1,6 +1,7 @@
 -- A migration, seen at its new table, is an insert phase (put-in shift): the turn that reads an old cell with a label is the insert operation for its content,
 -- a turn at the new table is the insert's step, and every other call is nothing there. So every list of calls leaves what some list of events of an insert
 -- phase leaves.
+use Rattle.std.specs.Prelude.{Option, ℕ, Some, None, Ok}
 use mathlib.Core.Path.{◌≡◌, refl, sym, ap, ◌∙◌}
 use mathlib.Core.Logic.{◌≢◌, ◌⊎◌, inl, inr, ⊎_elim}
 use mathlib.Core.Bool.{true, false}
@@ -25,14 +26,10 @@ use Rattle.rule.specs.Rule.{touched, rule, start}
 use Rattle.rule.specs.declared.Answer.{Answer}
 use Rattle.rule.specs.declared.Answer.TheVariants.{WentOn, Finished}
 use Rattle.rule.specs.declared.Answer.TheVariants as answer
-use Rattle.rule.specs.declared.Place.{Place}
-use Rattle.rule.specs.declared.Place.TheVariants.{Nowhere, At}
 use Rattle.rule.proofs.Suits.{nowhere-idle}
 use Rattle.rule.proofs.Telling.{settles}
 use Rattle.state.specs.Model.{Model}
-use Rattle.state.specs.declared.Reply.TheVariants.{Accepted}
 use Rattle.protocol.specs.Split.{one_at, one_cells_at}
-use Rattle.protocol.specs.declared.TurnReply.TheVariants as turnReply
 use Rattle.protocol.proofs.Chain.{by-reply}
 use Rattle.migration.specs.Calls.{task_at, with_task, order_reply, close_reply, turn_check}
 use Rattle.migration.specs.Claim.{Fetched, AsOpened}
@@ -90,8 +87,8 @@ module _ (M : Model) (l m : ℕ) (ab : Hash) (old : List ℕ) where
   unfolding event accepts
   order_is r w x low is nz = rw (lt-ltb w (length r.workers) low, is, lt-ltb 0 (label x) (omega arith))
 
-  step_is : (r : Run) (w : ℕ) (a : Activity) (c : ℕ) → w < length r.workers → worker r w ≡ a → touched a ≡ At c
-      → event 1 l label (M.home ab l) (events.step w) r ≡ stepped_at 1 l label (M.home ab l) r w a (At c)
+  step_is : (r : Run) (w : ℕ) (a : Activity) (c : ℕ) → w < length r.workers → worker r w ≡ a → touched a ≡ Some c
+      → event 1 l label (M.home ab l) (events.step w) r ≡ stepped_at 1 l label (M.home ab l) r w a (Some c)
   unfolding event stepped
   step_is r w a c low is z = rw (lt-ltb w (length r.workers) low, is, z)
 
@@ -114,7 +111,7 @@ module _ (M : Model) (l m : ℕ) (ab : Hash) (old : List ℕ) where
         (λ e. inl (e, ap old_cell (sym (task-set p (suc p.next) w (Fetching p.next) low) ∙ ap (task_at q) (sym e) ∙ z)))
         (λ ne. let g = sym ((but-task p (suc p.next) w (Fetching p.next)).others u ne) ∙ z in inr (g, handed u c g))
 
-  order-follows : (s : Course) (r : Run) (w : ℕ) → Follows l m ab old s r → order_reply M s.migration w ≡ Accepted → Follows l m ab old (call M (order w) s) r
+  order-follows : (s : Course) (r : Run) (w : ℕ) → Follows l m ab old s r → order_reply M s.migration w ≡ Ok tt → Follows l m ab old (call M (order w) s) r
   unfolding call
   order-follows s r w f e =
       let p = s.migration in
@@ -159,7 +156,7 @@ module _ (M : Model) (l m : ℕ) (ab : Hash) (old : List ℕ) where
       })
 
   -- ---- close
-  close_follows : (s : Course) (r : Run) → Follows l m ab old s r → close_reply M s.migration ≡ Accepted → Follows l m ab old (call M close s) r
+  close_follows : (s : Course) (r : Run) → Follows l m ab old s r → close_reply M s.migration ≡ Ok tt → Follows l m ab old (call M close s) r
   unfolding call
   close_follows s r f e =
       let q = close_passed M s.migration e in
@@ -185,7 +182,7 @@ module _ (M : Model) (l m : ℕ) (ab : Hash) (old : List ℕ) where
   -- ---- turn
   goes-follows : (s : Course) (r : Run) (w : ℕ) (u t : List ℕ) (a : Activity) (x : Answer) (r' : Run) → Follows l m ab old s r → w < m → s.migration.shut ≡ false
       → u ≡ s.old → Goes l old s r w t a x r'
-      → Follows l m ab old (after_turn w u t (with_task s.migration s.migration.next w (Inserting a)) (turnReply.Answered x) s) r'
+      → Follows l m ab old (after_turn w u t (with_task s.migration s.migration.next w (Inserting a)) (Ok x) s) r'
   goes-follows s r w u t a x r' f low running same g =
       let p = s.migration in
       let sum = fetching-set p.carriers w (Inserting a) m low f.crew.records in
@@ -295,12 +292,12 @@ module _ (M : Model) (l m : ℕ) (ab : Hash) (old : List ℕ) where
       none-given : (d : ℕ) → task_at s.migration w ≡ Fetching d → ⊥
       none-given d y = not-fetching a d (sym is ∙ y)
 
-      work-turned : (q : Place) → touched a ≡ q
+      work-turned : (q : Option ℕ) → touched a ≡ q
           → let p = s.migration in
           let x = one_at M 1 p.hash p.length s.new (record { activity = a }) q in
           Next (after_turn w s.old (one_cells_at M 1 p.hash p.length s.new (record { activity = a }) q)
           (with_task p p.next w (Inserting x.worker.activity)) x.reply s) r
-      work-turned Nowhere z =
+      work-turned None z =
           inl (goes-follows s r w s.old s.new a answer.Idle r f low running refl
           (record {
             table = f.table;
@@ -313,7 +310,7 @@ module _ (M : Model) (l m : ℕ) (ab : Hash) (old : List ℕ) where
             kept = λ v i. i;
             given = λ d y _. absurd (none-given d y);
           }))
-      work-turned (At c) z =
+      work-turned (Some c) z =
           let p = s.migration in
           let o = rule 1 l label (M.home ab l) a (get_or r.table c 0) in
           let one : rule 1 p.length label (M.home p.hash p.length) a (get_or s.new c 0) ≡ rule 1 l label (M.home ab l) a (get_or r.table c 0)
@@ -322,7 +319,7 @@ module _ (M : Model) (l m : ℕ) (ab : Hash) (old : List ℕ) where
           (inr (
             events.step w,
             rw (step_is r w a c manned same z)
-                (goes-follows s r w s.old (set s.new c o.content) o.activity o.answer (stepped_at 1 l label (M.home ab l) r w a (At c)) f low running refl
+                (goes-follows s r w s.old (set s.new c o.content) o.activity o.answer (stepped_at 1 l label (M.home ab l) r w a (Some c)) f low running refl
                 (record {
                   table = ap (λ (t : List ℕ). set t c o.content) f.table;
                   sized = length-set s.new c o.content ∙ f.frame.sized;

@@ -1,4 +1,5 @@
 -- A call keeps a well-formed migration well formed, also one that no opening and no calls lead to; and what an opening hands back is well formed.
+use Rattle.std.specs.Prelude.{Option, ℕ, Some, None}
 use mathlib.Core.Path.{◌≡◌, refl, ap, ◌∙◌}
 use mathlib.Core.Bool.{Bool}
 use mathlib.Core.List.{List}
@@ -16,8 +17,6 @@ use Rattle.prices.specs.Contents.{label}
 use Rattle.activities.specs.Activities.{Suits}
 use Rattle.activities.specs.declared.Activity.{Activity}
 use Rattle.rule.specs.Rule.{touched}
-use Rattle.rule.specs.declared.Place.{Place}
-use Rattle.rule.specs.declared.Place.TheVariants.{Nowhere, At}
 use Rattle.rule.proofs.Crew.{replicate-at}
 use Rattle.rule.proofs.Suits.{rule-suits}
 use Rattle.state.specs.Model.{Model, Proper, model_of}
@@ -43,9 +42,9 @@ module _ (M : Model) (ab : Hash) (n m : ℕ) (at_home : (v : ℕ) → M.home ab 
   unfolding fetched
   fetched-allowed x = tested (λ (r : Carried). Allowed n m r.carrier.task) (eqb (label x) 0) (λ _. tt) (λ e. (eqb-false (label x) 0 e, at_home (label x)))
 
-  moved-suits : (a : Activity) → Suits 1 m label a → (q : Place) → Suits 1 m label (one_at M 1 ab m new (record { activity = a }) q).worker.activity
-  moved-suits a h Nowhere = h
-  moved-suits a h (At c) = rule-suits 1 m label (M.home ab m) a (get_or new c 0) h
+  moved-suits : (a : Activity) → Suits 1 m label a → (q : Option ℕ) → Suits 1 m label (one_at M 1 ab m new (record { activity = a }) q).worker.activity
+  moved-suits a h None = h
+  moved-suits a h (Some c) = rule-suits 1 m label (M.home ab m) a (get_or new c 0) h
 
   carry-allowed : (a : Task) → Allowed n m a → Allowed n m (one_carry M ab m old new a).carrier.task
   carry-allowed (Fetching c) h = fetched-allowed (get_or old c 0)

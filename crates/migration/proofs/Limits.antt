@@ -1,4 +1,5 @@
 -- Within the limits of a model its calls on migrations are the gateway's: the tests of these limits are all that is different.
+use Rattle.std.specs.Prelude.{Ok, Err}
 use mathlib.Core.Path.{◌≡◌, refl, sym, ap, ap₂, ◌∙◌}
 use mathlib.Core.Logic.{◌↔◌}
 use mathlib.Core.Bool.{true}
@@ -8,12 +9,10 @@ use lib.ListN.{length}
 use Rattle.homes.specs.declared.Hash.{Hash}
 use Rattle.state.specs.Model.{gateway, model_of}
 use Rattle.state.specs.declared.Device.{Device}
-use Rattle.state.specs.declared.Reply.{Reply}
-use Rattle.state.specs.declared.Reply.TheVariants.{Accepted, Refused}
+use Rattle.state.specs.Replies.{Reply}
 use Rattle.state.proofs.Model.{proper}
 use Rattle.protocol.specs.WellFormed.{Size, Crew}
-use Rattle.protocol.specs.declared.TurnReply.{TurnReply}
-use Rattle.protocol.specs.declared.TurnReply.TheVariants as turnReply
+use Rattle.protocol.specs.Replies.{TurnReply}
 use Rattle.protocol.proofs.Limits.{size-within, crew-within, cells-in-both, crew-in-both}
 use Rattle.numbered.specs.Numbers.{turn_answer, reply_answer}
 use Rattle.migration.specs.Calls.{is_well_formed, open_reply, open_call, order_call, close_call, turn_call, turn_old, turn_new}
@@ -31,16 +30,16 @@ use Rattle.migration.proofs.Protocol.{opens}
 
 -- ---- what an answer adds leaves the record as the call left it
 order-left : (w : ℕ) (p : Migration) (r : Reply) (s : Course) → (after_order w p r s).migration ≡ p
-order-left w p Accepted s = refl
-order-left w p (Refused r) s = refl
+order-left w p (Ok _) s = refl
+order-left w p (Err r) s = refl
 
 turn-left : (w : ℕ) (old new : List ℕ) (p : Migration) (r : TurnReply) (s : Course) → (after_turn w old new p r s).migration ≡ p
-turn-left w old new p (turnReply.Answered a) s = refl
-turn-left w old new p (turnReply.Refused r) s = refl
+turn-left w old new p (Ok a) s = refl
+turn-left w old new p (Err r) s = refl
 
 close-left : (p : Migration) (r : Reply) (s : Course) → (after_close p r s).migration ≡ p
-close-left p Accepted s = refl
-close-left p (Refused r) s = refl
+close-left p (Ok _) s = refl
+close-left p (Err r) s = refl
 
 module _ (d : Device) where
   pub open-alike : (m : ℕ) (ab : Hash) (old new : List ℕ) → Size (model_of d) (length old) → Size (model_of d) (length new) → Crew (model_of d) m
@@ -150,14 +149,14 @@ module _ (d : Device) where
       (answers-alike cs (call (model_of d) c s) (call-formed c s h) ∙ ap (answers_of gateway cs) (call-alike c s h))
 
   -- ---- from an opening that the model accepts
-  module _ (m : ℕ) (ab : Hash) (old new : List ℕ) (is : open_reply (model_of d) m ab old new ≡ Accepted) where
+  module _ (m : ℕ) (ab : Hash) (old new : List ℕ) (is : open_reply (model_of d) m ab old new ≡ Ok tt) where
     alike : open_call (model_of d) m ab old new ≡ open_call gateway m ab old new
     alike = let o = open-passed (model_of d) (proper d) m ab old new is in open-alike m ab old new o.from o.to o.crew
 
     within : WellFormed (model_of d) (open_call (model_of d) m ab old new).migration
     within = each-never-spoilt d (open_call (model_of d) m ab old new).migration (opened m ab old new)
 
-    pub accepted : open_reply gateway m ab old new ≡ Accepted
+    pub accepted : open_reply gateway m ab old new ≡ Ok tt
     accepted =
         sym (opens gateway m ab old new).reply ∙ ap (λ (r : Migrated). r.reply) (sym alike) ∙ (opens (model_of d) m ab old new).reply ∙ is
 

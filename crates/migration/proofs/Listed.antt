@@ -1,4 +1,5 @@
 -- Lists of calls on a migration given as numbers, and what one call more adds to a list of calls, to what they leave and to their answers.
+use Rattle.std.specs.Prelude.{Ok, Err}
 use mathlib.Core.Path.{◌≡◌, refl, sym, ap, ◌∙◌}
 use mathlib.Core.Logic.{◌≢◌}
 use mathlib.Core.List.{List, [], ◌∷◌, ◌++◌, append_assoc}
@@ -10,10 +11,8 @@ use lib.Seq.{drop-cons, set_at, get_or-append_seam}
 use borrow.Author.Tests.{eq-eqb, ne_eqb}
 use Rattle.ring.proofs.Split.{by-lt}
 use Rattle.state.specs.Model.{Model}
-use Rattle.state.specs.declared.Reply.{Reply}
-use Rattle.state.specs.declared.Reply.TheVariants.{Accepted, Refused}
-use Rattle.protocol.specs.declared.TurnReply.{TurnReply}
-use Rattle.protocol.specs.declared.TurnReply.TheVariants as turnReply
+use Rattle.state.specs.Replies.{Reply}
+use Rattle.protocol.specs.Replies.{TurnReply}
 use Rattle.numbered.specs.Numbers.{turn_answer, reply_answer}
 use Rattle.migration.specs.Calls.{order_call, close_call, turn_call, turn_old, turn_new}
 use Rattle.migration.specs.Courses.{Call, order, turn, close, Course, after_order, after_turn, after_close, call, run}
@@ -56,18 +55,18 @@ calls = record {
 -- ---- whatever the answer, the state and the two tables are those given
 order_leaves : (w : ℕ) (p : Migration) (r : Reply) (s : Course)
     → ((after_order w p r s).migration ≡ p) × ((after_order w p r s).old ≡ s.old) × ((after_order w p r s).new ≡ s.new)
-order_leaves w p Accepted s = (refl, refl, refl)
-order_leaves w p (Refused r) s = (refl, refl, refl)
+order_leaves w p (Ok _) s = (refl, refl, refl)
+order_leaves w p (Err r) s = (refl, refl, refl)
 
 turn_leaves : (w : ℕ) (old new : List ℕ) (p : Migration) (r : TurnReply) (s : Course)
     → ((after_turn w old new p r s).migration ≡ p) × ((after_turn w old new p r s).old ≡ old) × ((after_turn w old new p r s).new ≡ new)
-turn_leaves w old new p (turnReply.Answered a) s = (refl, refl, refl)
-turn_leaves w old new p (turnReply.Refused r) s = (refl, refl, refl)
+turn_leaves w old new p (Ok a) s = (refl, refl, refl)
+turn_leaves w old new p (Err r) s = (refl, refl, refl)
 
 close_leaves : (p : Migration) (r : Reply) (s : Course)
     → ((after_close p r s).migration ≡ p) × ((after_close p r s).old ≡ s.old) × ((after_close p r s).new ≡ s.new)
-close_leaves p Accepted s = (refl, refl, refl)
-close_leaves p (Refused r) s = (refl, refl, refl)
+close_leaves p (Ok _) s = (refl, refl, refl)
+close_leaves p (Err r) s = (refl, refl, refl)
 
 module _ (M : Model) where
   -- ---- one call more at the end

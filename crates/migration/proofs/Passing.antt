@@ -1,4 +1,5 @@
 -- The calls' sequences of refusals, each test with what it says, and what a call that is not refused has passed.
+use Rattle.std.specs.Prelude.{Ok}
 use mathlib.Core.Path.{◌≡◌, refl, ap}
 use mathlib.Core.Logic.{◌≢◌, ◌⊎◌, inl, inr, ⊎_elim}
 use mathlib.Core.Bool.{true, false, not}
@@ -14,7 +15,6 @@ use Rattle.words.specs.Words.{count_of}
 use Rattle.state.specs.Model.{Model, Proper, size_ok, crew_ok}
 use Rattle.state.specs.Refusals.{reply_number}
 use Rattle.state.specs.declared.Refusal.TheVariants as refusal
-use Rattle.state.specs.declared.Reply.TheVariants.{Accepted}
 use Rattle.protocol.specs.Promise.{SoundIn}
 use Rattle.protocol.specs.WellFormed.{Size, Crew}
 use Rattle.protocol.proofs.Calls.{even_steps, sound_steps}
@@ -71,7 +71,7 @@ pub record OpenPassed (M : Model) (m : ℕ) (ab : Hash) (old new : List ℕ) : T
   pub sound : SoundIn M ab old
   pub fit : Fit old new
 
-pub open-passed : (M : Model) → Proper M → (m : ℕ) (ab : Hash) (old new : List ℕ) → open_reply M m ab old new ≡ Accepted → OpenPassed M m ab old new
+pub open-passed : (M : Model) → Proper M → (m : ℕ) (ab : Hash) (old new : List ℕ) → open_reply M m ab old new ≡ Ok tt → OpenPassed M m ab old new
 open-passed M proper m ab old new e =
     let (_, (_, (_, (_, (_, (_, (_, none))))))) = decides (open_steps M m ab old new) refl (reply_number (open_reply M m ab old new)) refl in
     let (((((((_, (from, into)), crew), _), w), g), d), (empty, room)) = none.0 (ap reply_number e) in
@@ -139,7 +139,7 @@ pub record OrderPassed (M : Model) (p : Migration) (w : ℕ) : Type 0 where
   pub idle : task_at p w ≡ free
   pub remains : p.next < p.source
 
-pub order-passed : (M : Model) (p : Migration) (w : ℕ) → order_reply M p w ≡ Accepted → OrderPassed M p w
+pub order-passed : (M : Model) (p : Migration) (w : ℕ) → order_reply M p w ≡ Ok tt → OrderPassed M p w
 order-passed M p w e =
     let (_, (_, (_, (_, (_, none))))) = decides (order_steps M p w) refl (reply_number (order_reply M p w)) refl in
     let (((((_, formed), running), below), idle), remains) = none.0 (ap reply_number e) in
@@ -153,7 +153,7 @@ pub record TurnPassed (M : Model) (p : Migration) (old new : List ℕ) (w : ℕ)
   pub to : p.length ≡ length new
   pub below : w < p.crew
 
-pub turn-passed : (M : Model) (p : Migration) (old new : List ℕ) (w : ℕ) → turn_check M p old new w ≡ Accepted → TurnPassed M p old new w
+pub turn-passed : (M : Model) (p : Migration) (old new : List ℕ) (w : ℕ) → turn_check M p old new w ≡ Ok tt → TurnPassed M p old new w
 turn-passed M p old new w e =
     let (_, (_, (_, (_, none)))) = decides (turn_steps M p old new w) refl (reply_number (turn_check M p old new w)) refl in
     let ((((_, formed), running), (from, into)), below) = none.0 (ap reply_number e) in
@@ -166,7 +166,7 @@ pub record ClosePassed (M : Model) (p : Migration) : Type 0 where
   pub rest : (w : ℕ) → task_at p w ≡ free
   pub done : p.next ≡ p.source
 
-pub close_passed : (M : Model) (p : Migration) → close_reply M p ≡ Accepted → ClosePassed M p
+pub close_passed : (M : Model) (p : Migration) → close_reply M p ≡ Ok tt → ClosePassed M p
 close_passed M p e =
     let (_, (_, (_, none))) = decides (close_steps M p) refl (reply_number (close_reply M p)) refl in
     let (((_, formed), running), (rest, all)) = none.0 (ap reply_number e) in

@@ -1,4 +1,5 @@
 -- The promises on opening, order and close, on kinds, and that a and b are not tested. (Those on turns: Turning.)
+use Rattle.std.specs.Prelude.{Ok}
 use mathlib.Core.Path.{◌≡◌, refl, sym, ap, ◌∙◌}
 use mathlib.Core.Logic.{◌≢◌, ◌⊎◌, inl, inr, ⊎_elim}
 use mathlib.Core.Bool.{Bool, true, false}
@@ -17,7 +18,6 @@ use Rattle.words.specs.Words.{count_of}
 use Rattle.state.specs.Model.{Model, Proper, model_of}
 use Rattle.state.specs.Refusals.{reply_number}
 use Rattle.state.specs.declared.Phase.{Phase}
-use Rattle.state.specs.declared.Reply.TheVariants.{Accepted}
 use Rattle.state.proofs.Model.{proper}
 use Rattle.protocol.specs.Cases.{case, Decides}
 use Rattle.protocol.specs.Promise.{Soundness, GappedIn, DisorderedIn}
@@ -68,7 +68,7 @@ module _ (M : Model) (m : ℕ) (ab : Hash) (old new : List ℕ) where
   open-number : open-answer ≡ reply_number (open_reply M m ab old new)
   open-number = ap reply_number open-reply
 
-  open-accepted : open-answer ≡ 0 → open_reply M m ab old new ≡ Accepted
+  open-accepted : open-answer ≡ 0 → open_reply M m ab old new ≡ Ok tt
   open-accepted z = none-accepted (open_reply M m ab old new) (sym open-number ∙ z)
 
   -- the taken cells of a sound old table are counted as its labels

@@ -1,4 +1,5 @@
 -- The promises on turns: their refusals, and what a turn that is not refused answers, changes and leaves.
+use Rattle.std.specs.Prelude.{Option, ℕ, Some, None, Ok}
 use mathlib.Core.Path.{◌≡◌, refl, sym, ap, ◌∙◌}
 use mathlib.Core.Logic.{◌≢◌, ◌↔◌}
 use mathlib.Core.Bool.{false}
@@ -22,12 +23,9 @@ use Rattle.rule.specs.Rule.{touched, start}
 use Rattle.rule.specs.declared.Answer.{Answer}
 use Rattle.rule.specs.declared.Answer.TheVariants.{WentOn, Finished}
 use Rattle.rule.specs.declared.Answer.TheVariants as answer
-use Rattle.rule.specs.declared.Place.{Place}
-use Rattle.rule.specs.declared.Place.TheVariants.{Nowhere, At}
 use Rattle.state.specs.Model.{Model}
 use Rattle.state.specs.Refusals.{reply_number}
 use Rattle.state.specs.declared.Phase.{Phase}
-use Rattle.state.specs.declared.Reply.TheVariants.{Accepted}
 use Rattle.protocol.specs.Bars.{doing}
 use Rattle.protocol.specs.Calls as phase
 use Rattle.protocol.specs.Calls.{turn_number}
@@ -35,7 +33,6 @@ use Rattle.protocol.specs.Promise as promise
 use Rattle.protocol.specs.WellFormed as plain
 use Rattle.protocol.specs.Split.{one_at, one_turn, one_cells}
 use Rattle.protocol.specs.declared.Moved.{Moved}
-use Rattle.protocol.specs.declared.TurnReply.TheVariants.{Answered}
 use Rattle.protocol.proofs.Answering.{moved-answers}
 use Rattle.protocol.proofs.Chain.{decides, by-reply, none-accepted}
 use Rattle.protocol.proofs.Frames.{present, moved}
@@ -103,13 +100,13 @@ module _ (M : Model) (ab : Hash) (m : ℕ) where
     unfolding fetched
     fetched-number = tested (λ (o : Carried). turn_number o.reply ≡ 0) (eqb (label x) 0) (λ _. refl) (λ _. refl)
 
-    fetched-answers : (c : ℕ) (r : Answer) → (fetched M ab m x).reply ≡ Answered r → Answers (Fetching c) (fetched M ab m x).carrier.task r
+    fetched-answers : (c : ℕ) (r : Answer) → (fetched M ab m x).reply ≡ Ok r → Answers (Fetching c) (fetched M ab m x).carrier.task r
     unfolding fetched
-    fetched-answers c r = tested (λ (o : Carried). o.reply ≡ Answered r → Answers (Fetching c) o.carrier.task r) (eqb (label x) 0)
+    fetched-answers c r = tested (λ (o : Carried). o.reply ≡ Ok r → Answers (Fetching c) o.carrier.task r) (eqb (label x) 0)
         (λ _ e. answers-finished (Fetching c) free r (fetching-busy c) refl (cc))
         (λ _ e. answers-on (Fetching c) (Inserting (start label (M.home ab m) x)) r (fetching-busy c) (λ f. let z : ◌≡◌ {A = ℕ} 0 1 = cc in omega arith) (cc))
 
-    fetched-empty : label x ≡ 0 → (fetched M ab m x).reply ≡ Answered Finished
+    fetched-empty : label x ≡ 0 → (fetched M ab m x).reply ≡ Ok Finished
     unfolding fetched
     fetched-empty e = rw (eq-eqb (label x) 0 e)
 
@@ -118,9 +115,9 @@ module _ (M : Model) (ab : Hash) (m : ℕ) where
     fetched-carries ne = rw (ne_eqb (label x) 0 ne)
 
   module _ (old new : List ℕ) where
-    one_number : (a : Activity) (q : Place) → turn_number (one_at M 1 ab m new (record { activity = a }) q).reply ≡ 0
-    one_number a Nowhere = refl
-    one_number a (At c) = refl
+    one_number : (a : Activity) (q : Option ℕ) → turn_number (one_at M 1 ab m new (record { activity = a }) q).reply ≡ 0
+    one_number a None = refl
+    one_number a (Some c) = refl
 
     carry-number : (a : Task) → turn_number (one_carry M ab m old new a).reply ≡ 0
     carry-number (Fetching c) = fetched-number (get_or old c 0)
@@ -130,17 +127,17 @@ module _ (M : Model) (ab : Hash) (m : ℕ) where
     abbrev alone : Activity → Phase
     alone a = record { kind = 1; length = m; crew = 1; shut = false; hash = ab; workers = record { activity = a } ∷ [] }
 
-    carry-answers : (n : ℕ) (a : Task) → Allowed n m a → (r : Answer) → (one_carry M ab m old new a).reply ≡ Answered r
+    carry-answers : (n : ℕ) (a : Task) → Allowed n m a → (r : Answer) → (one_carry M ab m old new a).reply ≡ Ok r
         → Answers a (one_carry M ab m old new a).carrier.task r
     carry-answers n (Fetching c) h r e = fetched-answers (get_or old c 0) c r e
     carry-answers n (Inserting a) h r e = inserts (touched a) refl e
       where
-        inserts : (q : Place) → touched a ≡ q → (one_at M 1 ab m new (record { activity = a }) q).reply ≡ Answered r
+        inserts : (q : Option ℕ) → touched a ≡ q → (one_at M 1 ab m new (record { activity = a }) q).reply ≡ Ok r
             → Answers (Inserting a) (Inserting (one_at M 1 ab m new (record { activity = a }) q).worker.activity) r
-        inserts Nowhere is f =
-            answers-inserting a a r (moved-answers M (alone a) new 0 (omega arith, omega arith) ((suits-allowed n m a).1 h) Nowhere is r f)
-        inserts (At c) is f =
-            answers-inserting a _ r (moved-answers M (alone a) new 0 (omega arith, omega arith) ((suits-allowed n m a).1 h) (At c) is r f)
+        inserts None is f =
+            answers-inserting a a r (moved-answers M (alone a) new 0 (omega arith, omega arith) ((suits-allowed n m a).1 h) None is r f)
+        inserts (Some c) is f =
+            answers-inserting a _ r (moved-answers M (alone a) new 0 (omega arith, omega arith) ((suits-allowed n m a).1 h) (Some c) is r f)
 
     -- the old table stays as it is
     old-kept : (a : Task) → old_after M ab m old new a ≡ old
@@ -152,7 +149,7 @@ module _ (M : Model) (p : Migration) (old new : List ℕ) (w : ℕ) where
   turn-number : turn_number (turn_call M p old new w).reply ≡ reply_number (turn_check M p old new w)
   turn-number = by-reply (turn_check M p old new w) (λ e. rw e (carry-number M p.hash p.length old new (task_at p w))) (λ _ e. rw e)
 
-  turn-accepted : turn_number (turn_call M p old new w).reply ≡ 0 → turn_check M p old new w ≡ Accepted
+  turn-accepted : turn_number (turn_call M p old new w).reply ≡ 0 → turn_check M p old new w ≡ Ok tt
   turn-accepted z = none-accepted (turn_check M p old new w) (sym turn-number ∙ z)
 
   -- a worker in the list does what its turn says, and one that is not in it stays free
@@ -163,7 +160,7 @@ module _ (M : Model) (p : Migration) (old new : List ℕ) (w : ℕ) where
       let e : get_or p.carriers w (carrier free) ≡ carrier free = get_or-eq_default p.carriers (carrier free) l in
       rw (set_out p.carriers w (one_carry M p.hash p.length old new (task_at p w)).carrier l, e) (ap (λ (x : Carrier). x.task) e))
 
-  pub turned-task : turn_check M p old new w ≡ Accepted
+  pub turned-task : turn_check M p old new w ≡ Ok tt
       → task_at (turn_call M p old new w).migration w ≡ (one_carry M p.hash p.length old new (task_at p w)).carrier.task
   turned-task e = rw e carried-task
 
@@ -174,7 +171,7 @@ module _ (M : Model) (p : Migration) (old new : List ℕ) (w : ℕ) where
       = ap (λ (a : Task). set p.carriers w (carrier a)) (sym is) ∙ set-get_or p.carriers w (carrier free) in
       rw e
 
-  answer-told : (r : Answer) → (turn_call M p old new w).reply ≡ Answered r → Answers (task_at p w) (task_at (turn_call M p old new w).migration w) r
+  answer-told : (r : Answer) → (turn_call M p old new w).reply ≡ Ok r → Answers (task_at p w) (task_at (turn_call M p old new w).migration w) r
   answer-told r e = by-reply (turn_check M p old new w)
       (λ ok.
       let q = turn-passed M p old new w ok in
@@ -184,18 +181,18 @@ module _ (M : Model) (p : Migration) (old new : List ℕ) (w : ℕ) where
 
 -- ---- beside a worker of an insert phase
 -- what it does after its turn is what its turn alone says
-inserted-doing : (M : Model) (q : Phase) (t : List ℕ) (u : ℕ) → phase.turn_check M q t u ≡ Accepted
+inserted-doing : (M : Model) (q : Phase) (t : List ℕ) (u : ℕ) → phase.turn_check M q t u ≡ Ok tt
     → doing (phase.turn_call M q t u).phase u ≡ (one_turn M q.kind q.hash q.length t (get_or q.workers u idle)).worker.activity
 inserted-doing M q t u ok = rw ok (at_place (touched (doing q u)) refl)
   where
-    at_place : (c : Place) → touched (doing q u) ≡ c
+    at_place : (c : Option ℕ) → touched (doing q u) ≡ c
         → doing (phase.moved_at M q t u c).phase u ≡ (one_at M q.kind q.hash q.length t (get_or q.workers u idle) c).worker.activity
-    at_place Nowhere is = refl
-    at_place (At c) is = moved q u _ (present q u c is)
+    at_place None is = refl
+    at_place (Some c) is = moved q u _ (present q u c is)
 
 -- a worker of a migration that does the same on the same table
-module _ (M : Model) (p : Migration) (old new : List ℕ) (w : ℕ) (a : Activity) (on : task_at p w ≡ Inserting a) (ok : turn_check M p old new w ≡ Accepted)
-    (q : Phase) (u : ℕ) (kind : q.kind ≡ 1) (hash : q.hash ≡ p.hash) (does : doing q u ≡ a) (fine : phase.turn_check M q new u ≡ Accepted) where
+module _ (M : Model) (p : Migration) (old new : List ℕ) (w : ℕ) (a : Activity) (on : task_at p w ≡ Inserting a) (ok : turn_check M p old new w ≡ Ok tt)
+    (q : Phase) (u : ℕ) (kind : q.kind ≡ 1) (hash : q.hash ≡ p.hash) (does : doing q u ≡ a) (fine : phase.turn_check M q new u ≡ Ok tt) where
   as-insert : AsInsert M p old new w q u
   as-insert =
       let (formed, up, fits, below) = theorem.turn-passed M q new u fine in
@@ -220,8 +217,8 @@ module _ (M : Model) (p : Migration) (old new : List ℕ) (w : ℕ) (a : Activit
       }
 
 -- there is one: of a crew as large, with this worker first
-module _ (M : Model) (p : Migration) (old new : List ℕ) (w : ℕ) (a : Activity) (on : task_at p w ≡ Inserting a) (ok : turn_check M p old new w ≡ Accepted) where
-  beside-passes : phase.turn_check M (beside p a) new 0 ≡ Accepted
+module _ (M : Model) (p : Migration) (old new : List ℕ) (w : ℕ) (a : Activity) (on : task_at p w ≡ Inserting a) (ok : turn_check M p old new w ≡ Ok tt) where
+  beside-passes : phase.turn_check M (beside p a) new 0 ≡ Ok tt
   beside-passes =
       let t = turn-passed M p old new w ok in
       let suits : Suits 1 p.length label a = (suits-allowed p.source p.length a).1 (rw on at (t.formed.workers w t.below)) in

@@ -1,4 +1,5 @@
 -- One turn of a migration, in any state: what its answer tells, what it goes by, and what it leaves alone.
+use Rattle.std.specs.Prelude.{Option, ℕ, Some, None, Ok}
 use mathlib.Core.Path.{◌≡◌, refl, sym, ap, ◌∙◌}
 use mathlib.Core.Logic.{◌≢◌}
 use mathlib.Core.List.{List}
@@ -16,13 +17,10 @@ use Rattle.activities.specs.declared.Activity.{Activity}
 use Rattle.activities.proofs.Activities.{cells-below}
 use Rattle.rule.specs.Rule.{touched, rule}
 use Rattle.rule.specs.declared.Outcome.{Outcome}
-use Rattle.rule.specs.declared.Place.{Place}
-use Rattle.rule.specs.declared.Place.TheVariants.{Nowhere, At}
 use Rattle.rule.proofs.Suits.{touched-below, nowhere-idle}
 use Rattle.rule.proofs.Telling.{Tells, on, done, found, missed, still, rule-tells}
 use Rattle.state.specs.Model.{Model}
 use Rattle.protocol.specs.Split.{one_at, one_cells_at}
-use Rattle.protocol.specs.declared.TurnReply.TheVariants.{Answered}
 use Rattle.history.specs.History.{worked}
 use Rattle.migration.specs.Calls.{task_at}
 use Rattle.migration.specs.Claim.{seen, TwoTurnsPromise}
@@ -41,7 +39,7 @@ module _ (M : Model) (ab : Hash) (l : ℕ) where
   unfolding fetched
   fetch-told x = tested (λ (r : Carried). bit (worked r.reply) ≡ 1) (eqb (label x) 0) (λ _. refl) (λ _. refl)
 
-  step-told : (a : Activity) (x : ℕ) (o : Outcome) → Suits 1 l label a → Tells 1 l label a x o → bit (worked (Answered o.answer)) ≡ busy a
+  step-told : (a : Activity) (x : ℕ) (o : Outcome) → Suits 1 l label a → Tells 1 l label a x o → bit (worked (Ok o.answer)) ≡ busy a
   step-told a x o h (on b _ e) = rw e (sym b)
   step-told a x o h (done _ b _ e) = rw e (sym b)
   step-told a x o h (found _ _ _ b _ e _ _) = rw e (sym b)
@@ -49,9 +47,9 @@ module _ (M : Model) (ab : Hash) (l : ℕ) where
   step-told a x o h (still rest _ e) = rw e (ap busy (sym (rest (omega arith) (omega arith) h)))
 
   module _ (old new : List ℕ) where
-    work-told : (a : Activity) → Suits 1 l label a → (q : Place) → touched a ≡ q → bit (worked (one_at M 1 ab l new (record { activity = a }) q).reply) ≡ busy a
-    work-told a h Nowhere z = ap busy (sym (nowhere-idle a z))
-    work-told a h (At c) z = step-told a (get_or new c 0) _ h (rule-tells 1 l label (M.home ab l) a (get_or new c 0))
+    work-told : (a : Activity) → Suits 1 l label a → (q : Option ℕ) → touched a ≡ q → bit (worked (one_at M 1 ab l new (record { activity = a }) q).reply) ≡ busy a
+    work-told a h None z = ap busy (sym (nowhere-idle a z))
+    work-told a h (Some c) z = step-told a (get_or new c 0) _ h (rule-tells 1 l label (M.home ab l) a (get_or new c 0))
 
     pub turn-told : (n : ℕ) (a : Task) → Allowed n l a → bit (worked (one_carry M ab l old new a).reply) ≡ occupied a
     turn-told n (Fetching c) h = fetch-told (get_or old c 0)
@@ -59,13 +57,13 @@ module _ (M : Model) (ab : Hash) (l : ℕ) where
 
     -- ---- what a turn leaves alone
     -- at place q of the new table
-    others-at : (a : Activity) (q : Place) (c : ℕ) → new_at q ≢ in_new c → get_or (one_cells_at M 1 ab l new (record { activity = a }) q) c 0 ≡ get_or new c 0
-    others-at a Nowhere c ne = refl
-    others-at a (At d) c ne = get_or-set_other new d c _ 0 (λ e. ne (ap in_new (sym e)))
+    others-at : (a : Activity) (q : Option ℕ) (c : ℕ) → new_at q ≢ in_new c → get_or (one_cells_at M 1 ab l new (record { activity = a }) q) c 0 ≡ get_or new c 0
+    others-at a None c ne = refl
+    others-at a (Some d) c ne = get_or-set_other new d c _ 0 (λ e. ne (ap in_new (sym e)))
 
-    sized-at : (a : Activity) (q : Place) → length (one_cells_at M 1 ab l new (record { activity = a }) q) ≡ length new
-    sized-at a Nowhere = refl
-    sized-at a (At d) = length-set new d _
+    sized-at : (a : Activity) (q : Option ℕ) → length (one_cells_at M 1 ab l new (record { activity = a }) q) ≡ length new
+    sized-at a None = refl
+    sized-at a (Some d) = length-set new d _
 
     others-kept : (a : Task) (c : ℕ) → spot_of a ≢ in_new c → get_or (new_after M ab l old new a) c 0 ≡ get_or new c 0
     others-kept (Fetching d) c ne = refl
@@ -77,21 +75,21 @@ module _ (M : Model) (ab : Hash) (l : ℕ) where
 
   -- ---- two turns with the same task and the same content of the touched cell
   module _ (old old' new new' : List ℕ) where
-    same_at : (a : Activity) (q : Place) → seen old new (new_at q) ≡ seen old' new' (new_at q)
+    same_at : (a : Activity) (q : Option ℕ) → seen old new (new_at q) ≡ seen old' new' (new_at q)
         → one_at M 1 ab l new (record { activity = a }) q ≡ one_at M 1 ab l new' (record { activity = a }) q
-    same_at a Nowhere e = refl
-    same_at a (At c) e = ap (λ (x : ℕ). let o = rule 1 l label (M.home ab l) a x in
-        record { worker = record { activity = o.activity }; reply = Answered o.answer }) e
+    same_at a None e = refl
+    same_at a (Some c) e = ap (λ (x : ℕ). let o = rule 1 l label (M.home ab l) a x in
+        record { worker = record { activity = o.activity }; reply = Ok o.answer }) e
 
     same-carry : (a : Task) → seen old new (spot_of a) ≡ seen old' new' (spot_of a) → one_carry M ab l old new a ≡ one_carry M ab l old' new' a
     same-carry (Fetching c) e = ap (fetched M ab l) e
     same-carry (Inserting a) e = ap (inserted M ab l) (same_at a (touched a) e)
 
     -- they leave it alike
-    cells_at_lem : (a : Activity) (q : Place) → ((c : ℕ) → q ≡ At c → (c < length new) × (c < length new')) → seen old new (new_at q) ≡ seen old' new' (new_at q)
+    cells_at_lem : (a : Activity) (q : Option ℕ) → ((c : ℕ) → q ≡ Some c → (c < length new) × (c < length new')) → seen old new (new_at q) ≡ seen old' new' (new_at q)
         → seen old (one_cells_at M 1 ab l new (record { activity = a }) q) (new_at q) ≡ seen old' (one_cells_at M 1 ab l new' (record { activity = a }) q) (new_at q)
-    cells_at_lem a Nowhere inside e = refl
-    cells_at_lem a (At c) inside e =
+    cells_at_lem a None inside e = refl
+    cells_at_lem a (Some c) inside e =
         let (low, low') = inside c refl in
         get_or-set_same new c _ 0 low ∙ ap (λ (x : ℕ). (rule 1 l label (M.home ab l) a x).content) e ∙ sym (get_or-set_same new' c _ 0 low')
 

@@ -1,5 +1,5 @@
 -- The calls on a migration (document 02: move shift): opening, order, turn and close, with the refusals of each in their sequence.
-use Rattle.std.specs.Prelude.{Bool, true, false, cond, List, [], ◌∷◌, ◌++◌, ℕ, suc, leb, ltb, eqb, length, get_or, set, replicate}
+use Rattle.std.specs.Prelude.{Bool, true, false, cond, List, [], ◌∷◌, ◌++◌, ℕ, suc, leb, ltb, eqb, length, get_or, set, replicate, Ok, Err}
 use Rattle.homes.specs.Homes.{plain}
 use Rattle.homes.specs.declared.Hash.{Hash}
 use Rattle.words.specs.Words.{count_of}
@@ -7,9 +7,7 @@ use Rattle.state.specs.Model.{Model, size_ok, crew_ok}
 use Rattle.state.specs.Open.{hash_bars, sound_bars}
 use Rattle.state.specs.Refusals.{Bar, if, unless, first_of}
 use Rattle.state.specs.declared.Refusal.TheVariants.{Size, Crew, OtherTable, NoWorker, Busy, Full, Working, Shut, Spoilt, Unfit}
-use Rattle.state.specs.declared.Reply.{Reply}
-use Rattle.state.specs.declared.Reply.TheVariants.{Accepted, Refused}
-use Rattle.protocol.specs.declared.TurnReply.TheVariants as turnReply
+use Rattle.state.specs.Replies.{Reply}
 use Rattle.migration.specs.Tasks.{free, carrier, is_free, task_ok, one_carry, old_after, new_after}
 use Rattle.migration.specs.declared.Carried.{Carried}
 use Rattle.migration.specs.declared.Carrier.{Carrier}
@@ -107,8 +105,8 @@ module _ (M : Model) where
     open_reply = first_of open_bars
 
     abbrev pub opened : Reply → Migrated
-    opened Accepted = record { migration = fresh (length old) (length new) crew false ab; reply = Accepted }
-    opened (Refused r) = record { migration = refused_migration; reply = Refused r }
+    opened (Ok _) = record { migration = fresh (length old) (length new) crew false ab; reply = Ok tt }
+    opened (Err r) = record { migration = refused_migration; reply = Err r }
 
     abbrev pub open_call : Migrated
     open_call = opened open_reply
@@ -148,8 +146,8 @@ module _ (M : Model) (p : Migration) where
   order_reply w = first_of (order_bars w)
 
   abbrev pub ordered : ℕ → Reply → Migrated
-  ordered w Accepted = record { migration = with_task p (suc p.next) w (Fetching p.next); reply = Accepted }
-  ordered w (Refused r) = record { migration = p; reply = Refused r }
+  ordered w (Ok _) = record { migration = with_task p (suc p.next) w (Fetching p.next); reply = Ok tt }
+  ordered w (Err r) = record { migration = p; reply = Err r }
 
   abbrev pub order_call : ℕ → Migrated
   order_call w = ordered w (order_reply w)
@@ -159,8 +157,8 @@ module _ (M : Model) (p : Migration) where
   close_reply = first_of close_bars
 
   abbrev pub closed : Reply → Migrated
-  closed Accepted = record { migration = shut_migration p; reply = Accepted }
-  closed (Refused r) = record { migration = p; reply = Refused r }
+  closed (Ok _) = record { migration = shut_migration p; reply = Ok tt }
+  closed (Err r) = record { migration = p; reply = Err r }
 
   abbrev pub close_call : Migrated
   close_call = closed close_reply
@@ -174,16 +172,16 @@ module _ (M : Model) (p : Migration) where
     stepped r = record { migration = with_task p p.next w r.carrier.task; reply = r.reply }
 
     abbrev pub turned : Reply → Stepped
-    turned Accepted = stepped (one_carry M p.hash p.length old new (task_at p w))
-    turned (Refused r) = record { migration = p; reply = turnReply.Refused r }
+    turned (Ok _) = stepped (one_carry M p.hash p.length old new (task_at p w))
+    turned (Err r) = record { migration = p; reply = Err r }
 
     abbrev pub turned_old : Reply → List ℕ
-    turned_old Accepted = old_after M p.hash p.length old new (task_at p w)
-    turned_old (Refused r) = old
+    turned_old (Ok _) = old_after M p.hash p.length old new (task_at p w)
+    turned_old (Err r) = old
 
     abbrev pub turned_new : Reply → List ℕ
-    turned_new Accepted = new_after M p.hash p.length old new (task_at p w)
-    turned_new (Refused r) = new
+    turned_new (Ok _) = new_after M p.hash p.length old new (task_at p w)
+    turned_new (Err r) = new
 
     -- the state and the answer, and the two tables afterwards
     abbrev pub turn_call : Stepped

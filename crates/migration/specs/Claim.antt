@@ -1,6 +1,6 @@
 -- Demand 3 for migrations (document 02: move shifts): what is promised of every list of order, turn and close calls from an accepted opening on, refused calls
 -- included, however the turns fall. Proved in proofs/Theorem.
-use Rattle.std.specs.Prelude.{◌≡◌, ◌≢◌, ◌↔◌, ◌⊎◌, true, false, List, [], ◌∷◌, ◌++◌, map, ℕ, zero, suc, ◌+◌, ◌≤◌, ◌<◌, T, length, get_or}
+use Rattle.std.specs.Prelude.{◌≡◌, ◌≢◌, ◌↔◌, ◌⊎◌, true, false, List, [], ◌∷◌, ◌++◌, map, ℕ, zero, suc, ◌+◌, ◌≤◌, ◌<◌, T, length, get_or, Ok}
 use Rattle.ring.specs.Counting.{count}
 use Rattle.layout.specs.Layout.{In}
 use Rattle.layout.specs.Sound.{Holds, Ordered}
@@ -10,7 +10,6 @@ use Rattle.prices.specs.Priced.{labels, priced_layout}
 use Rattle.phases.specs.Promise.{most_steps}
 use Rattle.state.specs.Model.{Model, Proper, model_of}
 use Rattle.state.specs.declared.Device.{Device}
-use Rattle.state.specs.declared.Reply.TheVariants.{Accepted}
 use Rattle.protocol.specs.Promise.{SoundIn}
 use Rattle.history.specs.History.{worked}
 use Rattle.history.specs.Promise.{SameHomes}
@@ -84,7 +83,7 @@ module _ (M : Model) (m : ℕ) (ab : Hash) (old new : List ℕ) (cs : List Call)
     pub unfinished : (w : ℕ) → (get_or (after M m ab old new cs).unfinished w false ≡ false) ↔ (task_at (after M m ab old new cs).migration w ≡ free)
     -- until the close a free worker's order is accepted while old cells remain
     pub accepts : (after M m ab old new cs).closed ≡ false → (after M m ab old new cs).accepted < length old
-        → (w : ℕ) → w < m → task_at (after M m ab old new cs).migration w ≡ free → (order_call M (after M m ab old new cs).migration w).reply ≡ Accepted
+        → (w : ℕ) → w < m → task_at (after M m ab old new cs).migration w ≡ free → (order_call M (after M m ab old new cs).migration w).reply ≡ Ok tt
     -- the counted turns are those of the list that were not refused and whose worker had an unfinished order, as their answers tell
     pub counts : (after M m ab old new cs).counted ≡ count worked (turn_replies M cs (opening M m ab old new))
     -- they are fewer than the formula
@@ -92,18 +91,18 @@ module _ (M : Model) (m : ℕ) (ab : Hash) (old new : List ℕ) (cs : List Call)
 
 abbrev pub CoursePromise : Type 0
 CoursePromise =
-    (M : Model) → Proper M → (m : ℕ) (ab : Hash) (old new : List ℕ) → open_reply M m ab old new ≡ Accepted → (cs : List Call) → Claim M m ab old new cs
+    (M : Model) → Proper M → (m : ℕ) (ab : Hash) (old new : List ℕ) → open_reply M m ab old new ≡ Ok tt → (cs : List Call) → Claim M m ab old new cs
 
 -- ---- what a refused opening hands back stays as it is, whatever is called
 abbrev pub RefusedPromise : Type 0
-RefusedPromise = (M : Model) (m : ℕ) (ab : Hash) (old new : List ℕ) → open_reply M m ab old new ≢ Accepted → (cs : List Call)
+RefusedPromise = (M : Model) (m : ℕ) (ab : Hash) (old new : List ℕ) → open_reply M m ab old new ≢ (Ok tt) → (cs : List Call)
     → ((after M m ab old new cs).migration ≡ refused_migration M) × ((after M m ab old new cs).old ≡ old) × ((after M m ab old new cs).new ≡ new)
 
 -- ---- two migrations so closed, of the same labels at the same prices into tables of one length, leave equal tables if homes are computed alike there, also in
 -- two models, from old tables of whatever lengths and with whatever workers and turns
 abbrev pub OneTable : (M M' : Model) → Type 0
 OneTable M M' = (m m' : ℕ) (ab ab' : Hash) (old old' new new' : List ℕ) → length new ≡ length new' → SameHomes M M' ab ab' (length new)
-    → open_reply M m ab old new ≡ Accepted → open_reply M' m' ab' old' new' ≡ Accepted → ((y : ℕ) → label y ≢ 0 → In y old ↔ In y old')
+    → open_reply M m ab old new ≡ Ok tt → open_reply M' m' ab' old' new' ≡ Ok tt → ((y : ℕ) → label y ≢ 0 → In y old ↔ In y old')
     → (cs cs' : List Call) → (after M m ab old new cs).closed ≡ true → (after M' m' ab' old' new' cs').closed ≡ true
     → (after M m ab old new cs).new ≡ (after M' m' ab' old' new' cs').new
 
@@ -122,7 +121,7 @@ rounds m (suc r) = visits m (rounds m r)
 
 -- however the calls fell so far, so many rounds close the migration
 abbrev pub Closable : Model → Type 0
-Closable M = (m : ℕ) (ab : Hash) (old new : List ℕ) → open_reply M m ab old new ≡ Accepted → (cs : List Call)
+Closable M = (m : ℕ) (ab : Hash) (old new : List ℕ) → open_reply M m ab old new ≡ Ok tt → (cs : List Call)
     → (after M m ab old new (cs ++ rounds m (length old + most_turns (length old) (length new) m (length old)))).closed ≡ true
 
 -- in each model that allows no shift without a worker, and so in each of the documents'
@@ -152,7 +151,7 @@ pub record Alike (M : Model) (p q : Migration) (old old' new new' : List ℕ) (w
   pub sized : length (turn_new M p old new w) ≡ length new
 
 abbrev pub TwoTurns : Model → Type 0
-TwoTurns M = (p q : Migration) (old old' new new' : List ℕ) (w z : ℕ) → turn_check M p old new w ≡ Accepted → turn_check M q old' new' z ≡ Accepted
+TwoTurns M = (p q : Migration) (old old' new new' : List ℕ) (w z : ℕ) → turn_check M p old new w ≡ Ok tt → turn_check M q old' new' z ≡ Ok tt
     → p.hash ≡ q.hash → length old ≡ length old' → length new ≡ length new' → task_at p w ≡ task_at q z
     → seen old new (spot_of (task_at p w)) ≡ seen old' new' (spot_of (task_at p w))
     → Alike M p q old old' new new' w z
@@ -163,6 +162,6 @@ TwoTurnsPromise = (M : Model) → TwoTurns M
 -- in the documents' models, in one or in one and the other, by one a and b. Nothing is left to assume
 abbrev pub BothOneTable : Type 0
 BothOneTable = (d d' : Device) (m m' : ℕ) (ab : Hash) (old old' new new' : List ℕ) → length new ≡ length new'
-    → open_reply (model_of d) m ab old new ≡ Accepted → open_reply (model_of d') m' ab old' new' ≡ Accepted → ((y : ℕ) → label y ≢ 0 → In y old ↔ In y old')
+    → open_reply (model_of d) m ab old new ≡ Ok tt → open_reply (model_of d') m' ab old' new' ≡ Ok tt → ((y : ℕ) → label y ≢ 0 → In y old ↔ In y old')
     → (cs cs' : List Call) → (after (model_of d) m ab old new cs).closed ≡ true → (after (model_of d') m' ab old' new' cs').closed ≡ true
     → (after (model_of d) m ab old new cs).new ≡ (after (model_of d') m' ab old' new' cs').new

@@ -1,13 +1,11 @@
 -- Lists of calls on one migration: each call gets the state that the last one returned, each turn also the two tables as the last turn left them. The calls are
 -- the very definitions that the functions' contracts name.
-use Rattle.std.specs.Prelude.{Bool, true, false, cond, List, [], ◌∷◌, ℕ, suc, ◌+◌, get_or, set, replicate}
+use Rattle.std.specs.Prelude.{Bool, true, false, cond, List, [], ◌∷◌, ℕ, suc, ◌+◌, get_or, set, replicate, Ok, Err}
 use Rattle.ring.specs.Counting.{bit}
 use Rattle.homes.specs.declared.Hash.{Hash}
 use Rattle.state.specs.Model.{Model}
-use Rattle.state.specs.declared.Reply.{Reply}
-use Rattle.state.specs.declared.Reply.TheVariants.{Accepted, Refused}
-use Rattle.protocol.specs.declared.TurnReply.{TurnReply}
-use Rattle.protocol.specs.declared.TurnReply.TheVariants as turnReply
+use Rattle.state.specs.Replies.{Reply}
+use Rattle.protocol.specs.Replies.{TurnReply}
 use Rattle.history.specs.History.{is_finish}
 use Rattle.migration.specs.Calls.{open_call, order_call, close_call, turn_call, turn_old, turn_new}
 use Rattle.migration.specs.declared.Migration.{Migration}
@@ -44,7 +42,7 @@ after_refusal old new p s = record {
 }
 
 abbrev pub after_order : ℕ → Migration → Reply → Course → Course
-after_order w p Accepted s = record {
+after_order w p (Ok _) s = record {
   old = s.old;
   new = s.new;
   migration = p;
@@ -53,10 +51,10 @@ after_order w p Accepted s = record {
   counted = s.counted;
   closed = s.closed;
 }
-after_order w p (Refused r) s = after_refusal s.old s.new p s
+after_order w p (Err r) s = after_refusal s.old s.new p s
 
 abbrev pub after_turn : ℕ → (old new : List ℕ) → Migration → TurnReply → Course → Course
-after_turn w old new p (turnReply.Answered a) s = record {
+after_turn w old new p (Ok a) s = record {
   old = old;
   new = new;
   migration = p;
@@ -65,10 +63,10 @@ after_turn w old new p (turnReply.Answered a) s = record {
   counted = bit (get_or s.unfinished w false) + s.counted;
   closed = s.closed;
 }
-after_turn w old new p (turnReply.Refused r) s = after_refusal old new p s
+after_turn w old new p (Err r) s = after_refusal old new p s
 
 abbrev pub after_close : Migration → Reply → Course → Course
-after_close p Accepted s = record {
+after_close p (Ok _) s = record {
   old = s.old;
   new = s.new;
   migration = p;
@@ -77,7 +75,7 @@ after_close p Accepted s = record {
   counted = s.counted;
   closed = true;
 }
-after_close p (Refused r) s = after_refusal s.old s.new p s
+after_close p (Err r) s = after_refusal s.old s.new p s
 
 module _ (M : Model) where
   unfoldable pub call : Call → Course → Course

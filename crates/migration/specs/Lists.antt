@@ -1,10 +1,9 @@
 -- Lists of calls on a migration given as numbers, and the numbers of their answers: what code gives, and what is promised of it.
-use Rattle.std.specs.Prelude.{◌≡◌, ◌≢◌, ◌↔◌, cond, List, [], ◌∷◌, ◌++◌, ℕ, zero, suc, min, ◌≤◌, ◌<◌, eqb, length, get_or, drop}
+use Rattle.std.specs.Prelude.{◌≡◌, ◌≢◌, ◌↔◌, cond, List, [], ◌∷◌, ◌++◌, ℕ, zero, suc, min, ◌≤◌, ◌<◌, eqb, length, get_or, drop, Ok, Err}
 use Rattle.homes.specs.declared.Hash.{Hash}
 use Rattle.state.specs.Model.{Model}
 use Rattle.state.specs.declared.Refusal.{Refusal}
-use Rattle.state.specs.declared.Reply.{Reply}
-use Rattle.state.specs.declared.Reply.TheVariants.{Accepted, Refused}
+use Rattle.state.specs.Replies.{Reply}
 use Rattle.numbered.specs.Numbers.{turn_answer, reply_answer}
 use Rattle.migration.specs.Calls.{open_reply, open_call, order_call, close_call, turn_call}
 use Rattle.migration.specs.Claim.{Claim}
@@ -63,8 +62,8 @@ module _ (M : Model) where
 module _ (M : Model) (m : ℕ) (ab : Hash) (old new ops workers out : List ℕ) where
   -- none if the opening is refused
   abbrev pub if_accepted : Reply → List Call
-  if_accepted Accepted = calls_lent ops workers out
-  if_accepted (Refused r) = []
+  if_accepted (Ok _) = calls_lent ops workers out
+  if_accepted (Err r) = []
 
   abbrev pub dealt : List Call
   dealt = if_accepted (open_reply M m ab old new)
@@ -82,13 +81,13 @@ module _ (M : Model) (m : ℕ) (ab : Hash) (old new ops workers out : List ℕ) 
 
   -- what is promised of the calls where the opening is accepted
   abbrev pub MovePromised : Type 0
-  MovePromised = open_reply M m ab old new ≡ Accepted → Claim M m ab old new dealt
+  MovePromised = open_reply M m ab old new ≡ Ok tt → Claim M m ab old new dealt
 
 -- ---- which calls are dealt: where the opening is accepted all that are lent, and it is of these that all is promised; else none. Proved in proofs/Dealt
 pub record Dealt (M : Model) (m : ℕ) (ab : Hash) (old new ops workers out : List ℕ) : Type 0 where
-  pub accepted : (open_call M m ab old new).reply ≡ Accepted → dealt M m ab old new ops workers out ≡ calls_lent ops workers out
-  pub promised : MovePromised M m ab old new ops workers out → (open_call M m ab old new).reply ≡ Accepted → Claim M m ab old new (calls_lent ops workers out)
-  pub refused : (r : Refusal) → (open_call M m ab old new).reply ≡ Refused r → dealt M m ab old new ops workers out ≡ []
+  pub accepted : (open_call M m ab old new).reply ≡ Ok tt → dealt M m ab old new ops workers out ≡ calls_lent ops workers out
+  pub promised : MovePromised M m ab old new ops workers out → (open_call M m ab old new).reply ≡ Ok tt → Claim M m ab old new (calls_lent ops workers out)
+  pub refused : (r : Refusal) → (open_call M m ab old new).reply ≡ Err r → dealt M m ab old new ops workers out ≡ []
 
 abbrev pub DealtPromise : Type 0
 DealtPromise = (M : Model) (m : ℕ) (ab : Hash) (old new ops workers out : List ℕ) → Dealt M m ab old new ops workers out

@@ -1,6 +1,6 @@
 -- Demand 1 for the calls on a migration (document 02: move shift): each refusal is given in its cases and in no other, the first to apply wins, and a refusal
 -- changes nothing. And what a call that is not refused answers, changes and leaves. Proved in proofs/Protocol, Turning, Formed and Keeping.
-use Rattle.std.specs.Prelude.{◌≡◌, ◌≢◌, ◌↔◌, ◌⊎◌, Bool, true, false, List, [], ◌∷◌, ◌++◌, ℕ, suc, ◌≤◌, ◌<◌, length, get_or}
+use Rattle.std.specs.Prelude.{◌≡◌, ◌≢◌, ◌↔◌, ◌⊎◌, Bool, true, false, List, [], ◌∷◌, ◌++◌, ℕ, suc, ◌≤◌, ◌<◌, length, get_or, Ok}
 use Rattle.layout.specs.Layout.{size}
 use Rattle.homes.specs.Homes.{plain}
 use Rattle.homes.specs.declared.Hash.{Hash}
@@ -17,14 +17,12 @@ use Rattle.state.specs.Open as plainly
 use Rattle.state.specs.Refusals.{reply_number}
 use Rattle.state.specs.declared.Device.{Device}
 use Rattle.state.specs.declared.Phase.{Phase}
-use Rattle.state.specs.declared.Reply.TheVariants.{Accepted}
 use Rattle.protocol.specs.Bars.{doing}
 use Rattle.protocol.specs.Calls as phase
 use Rattle.protocol.specs.Calls.{turn_number}
 use Rattle.protocol.specs.Cases.{Case, case, wants, Decides}
 use Rattle.protocol.specs.Promise.{Soundness, even_cases, sound_cases}
 use Rattle.protocol.specs.WellFormed.{Size, Crew}
-use Rattle.protocol.specs.declared.TurnReply.TheVariants.{Answered}
 use Rattle.migration.specs.Calls.{task_at, is_well_formed, open_reply, open_call, order_call, close_call, turn_call, turn_old, turn_new}
 use Rattle.migration.specs.Tasks.{free, Allowed}
 use Rattle.migration.specs.declared.Migration.{Migration}
@@ -227,11 +225,11 @@ pub record Turns (M : Model) (p : Migration) (old new : List ℕ) (w : ℕ) : Ty
   pub unchanged : turn_old M p old new w ≡ old
   -- a free worker's turn changes nothing; if it isn't refused it answers idle
   pub idle : task_at p w ≡ free → ((turn_call M p old new w).migration ≡ p) × (turn_new M p old new w ≡ new)
-  pub idle_answer : task_at p w ≡ free → turn_number (turn_call M p old new w).reply ≡ 0 → (turn_call M p old new w).reply ≡ Answered answer.Idle
-  pub answered : (r : Answer) → (turn_call M p old new w).reply ≡ Answered r → Answers (task_at p w) (task_at (turn_call M p old new w).migration w) r
+  pub idle_answer : task_at p w ≡ free → turn_number (turn_call M p old new w).reply ≡ 0 → (turn_call M p old new w).reply ≡ Ok answer.Idle
+  pub answered : (r : Answer) → (turn_call M p old new w).reply ≡ Ok r → Answers (task_at p w) (task_at (turn_call M p old new w).migration w) r
   -- an empty old cell, one without a label, is finished on its first turn
   pub empty : (c : ℕ) → task_at p w ≡ Fetching c → turn_number (turn_call M p old new w).reply ≡ 0 → label (get_or old c 0) ≡ 0
-      → (turn_call M p old new w).reply ≡ Answered Finished
+      → (turn_call M p old new w).reply ≡ Ok Finished
   -- any other content is carried, whole, from its label's home in the new table
   pub carries : (c : ℕ) → task_at p w ≡ Fetching c → turn_number (turn_call M p old new w).reply ≡ 0 → label (get_or old c 0) ≢ 0
       → task_at (turn_call M p old new w).migration w ≡ Inserting (Reading (get_or old c 0) (M.home p.hash p.length (label (get_or old c 0))))
@@ -239,10 +237,10 @@ pub record Turns (M : Model) (p : Migration) (old new : List ℕ) (w : ℕ) : Ty
   pub reads : (c : ℕ) → task_at p w ≡ Fetching c → turn_new M p old new w ≡ new
   -- from then on the worker is one of a put-in shift at the new table
   pub inserts : (a : Activity) → task_at p w ≡ Inserting a → turn_number (turn_call M p old new w).reply ≡ 0
-      → (q : Phase) (u : ℕ) → q.kind ≡ 1 → q.hash ≡ p.hash → doing q u ≡ a → phase.turn_check M q new u ≡ Accepted → AsInsert M p old new w q u
+      → (q : Phase) (u : ℕ) → q.kind ≡ 1 → q.hash ≡ p.hash → doing q u ≡ a → phase.turn_check M q new u ≡ Ok tt → AsInsert M p old new w q u
   -- and there is such a worker, the first of a put-in shift in which the others are idle: no turn is left out
   pub some_insert : (a : Activity) → task_at p w ≡ Inserting a → turn_number (turn_call M p old new w).reply ≡ 0
-      → (phase.turn_check M (beside p a) new 0 ≡ Accepted) × AsInsert M p old new w (beside p a) 0
+      → (phase.turn_check M (beside p a) new 0 ≡ Ok tt) × AsInsert M p old new w (beside p a) 0
   -- refused or not, a turn leaves all of the record but its own worker
   pub others : ButFor w p (turn_call M p old new w).migration
   pub next : (turn_call M p old new w).migration.next ≡ p.next

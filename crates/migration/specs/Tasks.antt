@@ -1,17 +1,14 @@
 -- What a worker of a migration (document 02: move shift) may be doing, and what a turn makes of one worker alone.
-use Rattle.std.specs.Prelude.{◌≢◌, Bool, false, cond, List, ℕ, ◌<◌, ltb, eqb, get_or, set}
+use Rattle.std.specs.Prelude.{◌≢◌, Bool, false, cond, List, ℕ, ◌<◌, ltb, eqb, get_or, set, Option, Some, None, Ok}
 use Rattle.homes.specs.declared.Hash.{Hash}
 use Rattle.prices.specs.Contents.{label}
 use Rattle.activities.specs.Activities.{is_idle, entry_of, activity_ok}
 use Rattle.activities.specs.declared.Activity.TheVariants.{Idle, Reading, Replacing, WalkingBack, SeekingForward, SeekingBack}
 use Rattle.rule.specs.Rule.{touched, start}
 use Rattle.rule.specs.declared.Answer.TheVariants.{WentOn, Finished}
-use Rattle.rule.specs.declared.Place.{Place}
-use Rattle.rule.specs.declared.Place.TheVariants as place
 use Rattle.state.specs.Model.{Model}
 use Rattle.protocol.specs.Split.{one_turn, one_cells}
 use Rattle.protocol.specs.declared.Moved.{Moved}
-use Rattle.protocol.specs.declared.TurnReply.TheVariants.{Answered}
 use Rattle.migration.specs.declared.Carried.{Carried}
 use Rattle.migration.specs.declared.Carrier.{Carrier}
 use Rattle.migration.specs.declared.Task.{Task}
@@ -56,9 +53,9 @@ pub data Spot : Type 0 where
   in_old : (c : ℕ) → Spot
   in_new : (c : ℕ) → Spot
 
-abbrev pub new_at : Place → Spot
-new_at place.Nowhere = nowhere
-new_at (place.At c) = in_new c
+abbrev pub new_at : Option ℕ → Spot
+new_at None = nowhere
+new_at (Some c) = in_new c
 
 abbrev pub spot_of : Task → Spot
 spot_of (Fetching c) = in_old c
@@ -69,8 +66,8 @@ module _ (M : Model) (ab : Hash) (m : ℕ) where
   -- that reads the content x of its old cell: without a label it is finished; any other it carries, whole, from its label's home in the new table
   unfoldable pub fetched : ℕ → Carried
   fetched x =
-      cond (eqb (label x) 0) (record { carrier = carrier free; reply = Answered Finished })
-      (record { carrier = carrier (Inserting (start label (M.home ab m) x)); reply = Answered WentOn })
+      cond (eqb (label x) 0) (record { carrier = carrier free; reply = Ok Finished })
+      (record { carrier = carrier (Inserting (start label (M.home ab m) x)); reply = Ok WentOn })
 
   -- from there on it is a worker of an insert phase (put-in shift) at the new table
   abbrev pub inserted : Moved → Carried

@@ -4,8 +4,8 @@
 
 use activities::Activity;
 use homes::Hash;
-use protocol::TurnReply;
-use state::{Phase, Reply};
+use rule::Answer;
+use state::{Phase, Refusal};
 
 // What a worker of a migration is doing.
 #[derive(Clone, Copy)]
@@ -39,19 +39,19 @@ pub struct Migration {
 #[derive(Clone, Copy)]
 pub struct Migrated {
     pub migration: Migration,
-    pub reply: Reply,
+    pub reply: Result<(), Refusal>,
 }
 
 // The same of a turn.
 #[derive(Clone, Copy)]
 pub struct Stepped {
     pub migration: Migration,
-    pub reply: TurnReply,
+    pub reply: Result<Answer, Refusal>,
 }
 
 // The same of one worker alone.
 #[derive(Clone, Copy)]
 pub struct Carried {
     pub carrier: Carrier,
-    pub reply: TurnReply,
+    pub reply: Result<Answer, Refusal>,
 }

@@ -1,4 +1,5 @@
 -- The kiosk's calls beside the gateway's: outside its limits by the promises, inside them by the tests, which are all that is different.
+use Rattle.std.specs.Prelude.{Ok}
 use mathlib.Core.Path.{◌≡◌, refl, sym, ap, ap₂, ◌∙◌}
 use mathlib.Core.Logic.{◌↔◌, ◌≢◌}
 use mathlib.Core.List.{List, [], ◌∷◌}
@@ -16,7 +17,6 @@ use Rattle.state.specs.Refusals.{reply_number}
 use Rattle.state.specs.declared.Device.TheVariants.{Gateway, Kiosk}
 use Rattle.state.specs.declared.Phase.{Phase}
 use Rattle.state.specs.declared.Replied.{Replied}
-use Rattle.state.specs.declared.Reply.TheVariants.{Accepted}
 use Rattle.state.proofs.Model.{proper}
 use Rattle.protocol.specs.Calls.{asked, entry_for, close_call, order_call, turn_number, turn_call, turn_table}
 use Rattle.protocol.specs.Promise.{opened as made-opened}
@@ -264,7 +264,7 @@ answers-alike os (c ∷ cs) s h =
     (answers-alike os cs (call kiosk os c s) (call-formed os c s h) ∙ ap (answers_of gateway os cs) (call-alike os c s same))
 
 -- ---- from an opening that the kiosk accepts
-module _ (k m : ℕ) (ab : Hash) (t : List ℕ) (os : List Order) (is : open_reply kiosk k m ab t os ≡ Accepted) where
+module _ (k m : ℕ) (ab : Hash) (t : List ℕ) (os : List Order) (is : open_reply kiosk k m ab t os ≡ Ok tt) where
   abbrev first : Phase
   first = (open_call kiosk k m ab t os).phase
 
@@ -283,7 +283,7 @@ module _ (k m : ℕ) (ab : Hash) (t : List ℕ) (os : List Order) (is : open_rep
   alike : open_call kiosk k m ab t os ≡ open_call gateway k m ab t os
   alike = alike-inside k m ab t os numbers.0 numbers.1
 
-  accepted : open_reply gateway k m ab t os ≡ Accepted
+  accepted : open_reply gateway k m ab t os ≡ Ok tt
   accepted =
       sym (opens gateway k m ab t os).reply ∙ ap (λ (r : Replied). r.reply) (sym alike) ∙ (opens kiosk k m ab t os).reply ∙ is
 

@@ -1,16 +1,14 @@
 -- The promises on calls of one model in one place, so that it is seen that the kiosk has every promise that the gateway has. Proved in proofs/Promises.
 -- Left out are those that no caller of a model sees by themselves: one worker apart from its record (`SplitPromise`), and answers and calls as numbers
 -- (crates `numbered`, `migration` and `answers`), which are stated there for every model, or for both.
-use Rattle.std.specs.Prelude.{◌≡◌, ◌≢◌, ◌↔◌, true, List, ℕ, length}
+use Rattle.std.specs.Prelude.{◌≡◌, ◌≢◌, ◌↔◌, true, List, ℕ, length, Ok}
 use Rattle.homes.specs.declared.Hash.{Hash}
 use Rattle.orders.specs.declared.Order.{Order}
 use Rattle.state.specs.Model.{Model, model_of, Limited, most_cells_of, most_workers_of}
 use Rattle.state.specs.Open.{open_reply, refused_phase}
 use Rattle.state.specs.Refusals.{reply_number}
-use Rattle.state.specs.declared.Counted.TheVariants.{Count}
 use Rattle.state.specs.declared.Device.{Device}
 use Rattle.state.specs.declared.Phase.{Phase}
-use Rattle.state.specs.declared.Reply.TheVariants.{Accepted}
 use Rattle.protocol.specs.Calls.{turn_number, turn_call}
 use Rattle.flaws.specs.Promise.{Intact}
 use Rattle.protocol.specs.Cases.{Decides}
@@ -48,10 +46,10 @@ pub record MovePromises (M : Model) : Type 0 where
   -- kind 4 is for these calls, and the other kinds are not
   pub kinds : promise.KindPromise M
   -- demand 3: every list of calls, which can be closed from any moment on; what a refused opening hands back stays; two lists closed alike; two turns
-  pub calls : (m : ℕ) (ab : Hash) (old new : List ℕ) → migration.open_reply M m ab old new ≡ Accepted → (cs : List courses.Call)
+  pub calls : (m : ℕ) (ab : Hash) (old new : List ℕ) → migration.open_reply M m ab old new ≡ Ok tt → (cs : List courses.Call)
       → claim.Claim M m ab old new cs
   pub ends : claim.Closable M
-  pub refused : (m : ℕ) (ab : Hash) (old new : List ℕ) → migration.open_reply M m ab old new ≢ Accepted → (cs : List courses.Call)
+  pub refused : (m : ℕ) (ab : Hash) (old new : List ℕ) → migration.open_reply M m ab old new ≢ (Ok tt) → (cs : List courses.Call)
       → ((courses.after M m ab old new cs).migration ≡ migration.refused_migration M)
       × ((courses.after M m ab old new cs).old ≡ old)
       × ((courses.after M m ab old new cs).new ≡ new)
@@ -84,15 +82,15 @@ pub record Promises (M : Model) (most crews : ℕ) : Type 0 where
   -- reply rounds: opening, closing, and the whole round
   pub sends : (m : ℕ) (ab : Hash) (t : List ℕ) (os : List Order) → Sending M m ab t os
   pub settles : (m : ℕ) (ab : Hash) (t : List ℕ) (rs : List Ack) (answers out : List ℕ) → Closing M m ab t rs answers out
-  pub rounds : (m m' : ℕ) (ab : Hash) (t : List ℕ) (os : List Order) → open_round M m ab t os ≡ Accepted
-      → (rs : List Ack) (answers out : List ℕ) (c : ℕ) → close_round M m' ab (sent_table M m ab t os) rs answers out ≡ Count c
+  pub rounds : (m m' : ℕ) (ab : Hash) (t : List ℕ) (os : List Order) → open_round M m ab t os ≡ Ok tt
+      → (rs : List Ack) (answers out : List ℕ) (c : ℕ) → close_round M m' ab (sent_table M m ab t os) rs answers out ≡ Ok c
       → Round os rs (answers_after M m' ab (sent_table M m ab t os) rs answers out) (list_after M m' ab (sent_table M m ab t os) rs answers out) c
   -- demand 3: every list of calls; two lists closed alike; two turns
-  pub calls : (k m : ℕ) (ab : Hash) (t : List ℕ) (os : List Order) → open_reply M k m ab t os ≡ Accepted → (cs : List Call) → Claim M k m ab t os cs
-  pub any_lists : (k m : ℕ) (ab : Hash) (t : List ℕ) (os : List Order) → open_reply M k m ab t os ≡ Accepted → (cs : List Lent)
+  pub calls : (k m : ℕ) (ab : Hash) (t : List ℕ) (os : List Order) → open_reply M k m ab t os ≡ Ok tt → (cs : List Call) → Claim M k m ab t os cs
+  pub any_lists : (k m : ℕ) (ab : Hash) (t : List ℕ) (os : List Order) → open_reply M k m ab t os ≡ Ok tt → (cs : List Lent)
       → AnyLists M k m ab t os cs
-  pub keeps_table : (k m : ℕ) (ab : Hash) (t : List ℕ) (os : List Order) → open_reply M k m ab t os ≡ Accepted → KeepsTable M k m ab t os
-  pub refused : (k m : ℕ) (ab : Hash) (t : List ℕ) (os : List Order) → open_reply M k m ab t os ≢ Accepted → (cs : List Call)
+  pub keeps_table : (k m : ℕ) (ab : Hash) (t : List ℕ) (os : List Order) → open_reply M k m ab t os ≡ Ok tt → KeepsTable M k m ab t os
+  pub refused : (k m : ℕ) (ab : Hash) (t : List ℕ) (os : List Order) → open_reply M k m ab t os ≢ (Ok tt) → (cs : List Call)
       → (after M k m ab t os cs).phase ≡ refused_phase M
   pub fixed : Fixed M M
   pub one_table : OneTable M M

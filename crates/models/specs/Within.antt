@@ -1,5 +1,5 @@
 -- The kiosk is the gateway within tighter limits: what it refuses by them, and that all else is the same in both. Proved in proofs/Within.
-use Rattle.std.specs.Prelude.{◌≡◌, ◌↔◌, List, [], ℕ, ◌≤◌, length}
+use Rattle.std.specs.Prelude.{◌≡◌, ◌↔◌, List, [], ℕ, ◌≤◌, length, Ok}
 use Rattle.homes.specs.declared.Hash.{Hash}
 use Rattle.orders.specs.declared.Order.{Order}
 use Rattle.state.specs.Counts.{count_number}
@@ -7,7 +7,6 @@ use Rattle.state.specs.Model.{gateway, kiosk}
 use Rattle.state.specs.Open.{open_reply, open_call, refused_phase}
 use Rattle.state.specs.Refusals.{reply_number}
 use Rattle.state.specs.declared.Phase.{Phase}
-use Rattle.state.specs.declared.Reply.TheVariants.{Accepted}
 use Rattle.protocol.specs.Calls.{turn_number, close_call, order_call, turn_call, turn_table}
 use Rattle.protocol.specs.WellFormed.{WellFormed}
 use Rattle.tables.specs.Calls.{check_call, count_call, list_call, list_after, list_front}
@@ -123,12 +122,12 @@ pub record Inside : Type 0 where
   -- a refused opening hands back the same record
   pub refused : refused_phase kiosk ≡ refused_phase gateway
   -- an opening that the kiosk accepts the gateway accepts too, and from there every list of calls gets the same answers and leaves the same in both
-  pub accepted : (k m : ℕ) (ab : Hash) (t : List ℕ) (os : List Order) → open_reply kiosk k m ab t os ≡ Accepted → open_reply gateway k m ab t os ≡ Accepted
-  pub runs : (k m : ℕ) (ab : Hash) (t : List ℕ) (os : List Order) → open_reply kiosk k m ab t os ≡ Accepted → (cs : List Call)
+  pub accepted : (k m : ℕ) (ab : Hash) (t : List ℕ) (os : List Order) → open_reply kiosk k m ab t os ≡ Ok tt → open_reply gateway k m ab t os ≡ Ok tt
+  pub runs : (k m : ℕ) (ab : Hash) (t : List ℕ) (os : List Order) → open_reply kiosk k m ab t os ≡ Ok tt → (cs : List Call)
       → after kiosk k m ab t os cs ≡ after gateway k m ab t os cs
-  pub runs_lent : (k m : ℕ) (ab : Hash) (t : List ℕ) (os : List Order) → open_reply kiosk k m ab t os ≡ Accepted → (cs : List Lent)
+  pub runs_lent : (k m : ℕ) (ab : Hash) (t : List ℕ) (os : List Order) → open_reply kiosk k m ab t os ≡ Ok tt → (cs : List Lent)
       → after_lent kiosk k m ab t os cs ≡ after_lent gateway k m ab t os cs
-  pub answers : (k m : ℕ) (ab : Hash) (t : List ℕ) (os : List Order) → open_reply kiosk k m ab t os ≡ Accepted → (cs : List Call)
+  pub answers : (k m : ℕ) (ab : Hash) (t : List ℕ) (os : List Order) → open_reply kiosk k m ab t os ≡ Ok tt → (cs : List Call)
       → answers_of kiosk os cs (opening kiosk k m ab t os) ≡ answers_of gateway os cs (opening gateway k m ab t os)
   -- a table that both may open closes alike in both, by whatever other calls with the same orders, and is fixed by what is left
   pub closes : OneTable kiosk gateway
@@ -138,11 +137,11 @@ pub record Inside : Type 0 where
       → migration.open_call kiosk m ab old new ≡ migration.open_call gateway m ab old new
   pub moves : (p : Migration) → promise.WellFormed kiosk p → SameMoves p
   pub move_refused : refused_migration kiosk ≡ refused_migration gateway
-  pub move_accepted : (m : ℕ) (ab : Hash) (old new : List ℕ) → migration.open_reply kiosk m ab old new ≡ Accepted
-      → migration.open_reply gateway m ab old new ≡ Accepted
-  pub move_runs : (m : ℕ) (ab : Hash) (old new : List ℕ) → migration.open_reply kiosk m ab old new ≡ Accepted → (cs : List courses.Call)
+  pub move_accepted : (m : ℕ) (ab : Hash) (old new : List ℕ) → migration.open_reply kiosk m ab old new ≡ Ok tt
+      → migration.open_reply gateway m ab old new ≡ Ok tt
+  pub move_runs : (m : ℕ) (ab : Hash) (old new : List ℕ) → migration.open_reply kiosk m ab old new ≡ Ok tt → (cs : List courses.Call)
       → courses.after kiosk m ab old new cs ≡ courses.after gateway m ab old new cs
-  pub move_answers : (m : ℕ) (ab : Hash) (old new : List ℕ) → migration.open_reply kiosk m ab old new ≡ Accepted → (cs : List courses.Call)
+  pub move_answers : (m : ℕ) (ab : Hash) (old new : List ℕ) → migration.open_reply kiosk m ab old new ≡ Ok tt → (cs : List courses.Call)
       → lists.answers_of kiosk cs (courses.opening kiosk m ab old new) ≡ lists.answers_of gateway cs (courses.opening gateway m ab old new)
   -- into tables of one length the same labels at the same prices are moved alike in both, by whatever calls
   pub move_closes : claim.OneTable kiosk gateway

@@ -1,4 +1,5 @@
 -- The numbers of answers are apart, and each tells its answer: the promise of specs/Numbers.
+use Rattle.std.specs.Prelude.{Ok, Err}
 use mathlib.Core.Path.{◌≡◌, refl, sym, ap, ◌∙◌}
 use mathlib.Core.Logic.{◌≢◌, ◌⊎◌, inl, inr, ⊎_elim}
 use mathlib.Core.Bool.{cond}
@@ -14,10 +15,8 @@ use Rattle.rule.specs.declared.Answer.TheVariants as answer
 use Rattle.state.specs.Refusals.{number_of}
 use Rattle.state.specs.declared.Refusal.{Refusal}
 use Rattle.state.specs.declared.Refusal.TheVariants.{Size, Crew, Kind, Unsound, OtherTable, NoWorker, Blank, Busy, Full, Working, Shut, ShortList, Spoilt, WrongPrice, NoLine, LongList, Gap, Disorder, BadRecord, BadField, Even, Absent, Unfit, TestNumber}
-use Rattle.state.specs.declared.Reply.{Reply}
-use Rattle.state.specs.declared.Reply.TheVariants.{Accepted, Refused}
-use Rattle.protocol.specs.declared.TurnReply.{TurnReply}
-use Rattle.protocol.specs.declared.TurnReply.TheVariants as turnReply
+use Rattle.state.specs.Replies.{Reply}
+use Rattle.protocol.specs.Replies.{TurnReply}
 use Rattle.numbered.specs.Numbers.{word, refusal_answer, step_answer, turn_answer, reply_answer, Fits, FitsReply, NumbersPromise}
 
 -- ---- the refusals in the documents' order: a refusal is that at its number
@@ -79,10 +78,10 @@ no_step : (r : Refusal) (a : Answer) → Fits a → refusal_answer r ≢ step_an
 no_step r a f e = ⊎_elim (λ low. omega arith) (λ above. omega (arith, (known r).1)) (said a f).1
 
 one-turn : (r s : TurnReply) → FitsReply r → FitsReply s → turn_answer r ≡ turn_answer s → r ≡ s
-one-turn (turnReply.Answered a) (turnReply.Answered b) f g e = ap turnReply.Answered (one-step a b f g e)
-one-turn (turnReply.Answered a) (turnReply.Refused s) f g e = absurd (no_step s a f (sym e))
-one-turn (turnReply.Refused r) (turnReply.Answered b) f g e = absurd (no_step r b g e)
-one-turn (turnReply.Refused r) (turnReply.Refused s) f g e = ap turnReply.Refused (one-refusal r s e)
+one-turn (Ok a) (Ok b) f g e = ap Ok (one-step a b f g e)
+one-turn (Ok a) (Err s) f g e = absurd (no_step s a f (sym e))
+one-turn (Err r) (Ok b) f g e = absurd (no_step r b g e)
+one-turn (Err r) (Err s) f g e = ap Err (one-refusal r s e)
 
 -- ---- a word, and the third, which is none
 is_word : (a : Answer) → ((q : ℕ) → a ≢ Price q) → (2 ^ 33 < step_answer a) × (step_answer a ≤ 2 ^ 33 + 5)
@@ -108,10 +107,10 @@ is-price n low No e = absurd (omega arith)
 is-price n low answer.Idle e = absurd (omega arith)
 
 one-reply : (r s : Reply) → reply_answer r ≡ reply_answer s → r ≡ s
-one-reply Accepted Accepted e = refl
-one-reply Accepted (Refused s) e = absurd (omega arith)
-one-reply (Refused r) Accepted e = absurd (omega arith)
-one-reply (Refused r) (Refused s) e = ap Refused (one-refusal r s e)
+one-reply (Ok _) (Ok _) e = refl
+one-reply (Ok _) (Err s) e = absurd (omega arith)
+one-reply (Err r) (Ok _) e = absurd (omega arith)
+one-reply (Err r) (Err s) e = ap Err (one-refusal r s e)
 
 pub numbers-promise : NumbersPromise
 numbers-promise = record {

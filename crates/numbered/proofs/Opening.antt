@@ -1,4 +1,5 @@
 -- The calls after an opening, and what is promised of them.
+use Rattle.std.specs.Prelude.{Ok, Err}
 use mathlib.Core.Path.{◌≡◌, refl, sym, ap, ◌∙◌, subst}
 use mathlib.Core.List.{List}
 use Prim.Native.Nat.{ℕ}
@@ -9,8 +10,7 @@ use Rattle.state.specs.Open.{open_reply, opened, open_call}
 use Rattle.state.specs.declared.Phase.{Phase}
 use Rattle.state.specs.declared.Refusal.{Refusal}
 use Rattle.state.specs.declared.Replied.{Replied}
-use Rattle.state.specs.declared.Reply.{Reply}
-use Rattle.state.specs.declared.Reply.TheVariants.{Accepted, Refused}
+use Rattle.state.specs.Replies.{Reply}
 use Rattle.history.specs.History.{run, opening}
 use Rattle.history.specs.Promise.{Claim}
 use Rattle.history.proofs.Theorem.{history}
@@ -19,8 +19,8 @@ use Rattle.numbered.specs.Batch.{if_accepted, dealt, Ran, Promised, DealtPromise
 
 module _ (M : Model) (k m : ℕ) (ab : Hash) (t : List ℕ) (os : List Order) where
   opened-reply : (r : Reply) → (opened M k m ab t r).reply ≡ r
-  opened-reply Accepted = refl
-  opened-reply (Refused r) = refl
+  opened-reply (Ok _) = refl
+  opened-reply (Err r) = refl
 
   -- the answer that the function read is the definition's
   told : (o : Replied) (r : Reply) → o ≡ open_call M k m ab t os → o.reply ≡ r → open_reply M k m ab t os ≡ r
@@ -35,16 +35,16 @@ module _ (M : Model) (k m : ℕ) (ab : Hash) (t : List ℕ) (os : List Order) wh
         let P : Reply → Type 0 = λ a. RunGives M os (if_accepted M k m ab t os ops lines workers keys out a) (opening M k m ab t os) out p t' out' in
         record { reply = sym e; gives = subst P (sym e) h }
 
-    accepted-ran : (p : Phase) (t' out' : List ℕ) → o.reply ≡ Accepted
+    accepted-ran : (p : Phase) (t' out' : List ℕ) → o.reply ≡ Ok tt
         → RunsFrom M os o.phase t (calls_lent ops lines workers keys out) out p t' out'
-        → Ran M k m ab t os ops lines workers keys out (record { phase = p; reply = Accepted }) t' out'
-    accepted-ran p t' out' read h = dealt-ran Accepted p t' out' read (h (opening M k m ab t os) (ap (λ (x : Replied). x.phase) (sym is)) refl)
+        → Ran M k m ab t os ops lines workers keys out (record { phase = p; reply = Ok tt }) t' out'
+    accepted-ran p t' out' read h = dealt-ran (Ok tt) p t' out' read (h (opening M k m ab t os) (ap (λ (x : Replied). x.phase) (sym is)) refl)
 
-    refused-ran : (why : Refusal) → o.reply ≡ Refused why
-        → Ran M k m ab t os ops lines workers keys out (record { phase = o.phase; reply = Refused why }) t out
+    refused-ran : (why : Refusal) → o.reply ≡ Err why
+        → Ran M k m ab t os ops lines workers keys out (record { phase = o.phase; reply = Err why }) t out
     unfolding run answers_of
     refused-ran why read =
-        dealt-ran (Refused why) o.phase t out read (record { phase = ap (λ (x : Replied). x.phase) is; table = refl; answers = refl })
+        dealt-ran (Err why) o.phase t out read (record { phase = ap (λ (x : Replied). x.phase) is; table = refl; answers = refl })
 
 -- the calls after an accepted opening keep the promises
 promised : (M : Model) → Proper M → (k m : ℕ) (ab : Hash) (t : List ℕ) (os : List Order) (ops lines workers keys out : List ℕ)
@@ -56,11 +56,11 @@ module _ (M : Model) (proper : Proper M) (k m : ℕ) (ab : Hash) (t : List ℕ) 
   abbrev Kept : Replied → List ℕ → List ℕ → Type 0
   Kept r t' out' = Ran M k m ab t os ops lines workers keys out r t' out' × Promised M k m ab t os ops lines workers keys out
 
-  pub accepted-kept : (p : Phase) (t' out' : List ℕ) → o.reply ≡ Accepted → RunsFrom M os o.phase t (calls_lent ops lines workers keys out) out p t' out'
-      → Kept (record { phase = p; reply = Accepted }) t' out'
+  pub accepted-kept : (p : Phase) (t' out' : List ℕ) → o.reply ≡ Ok tt → RunsFrom M os o.phase t (calls_lent ops lines workers keys out) out p t' out'
+      → Kept (record { phase = p; reply = Ok tt }) t' out'
   accepted-kept p t' out' read h = (accepted-ran M k m ab t os ops lines workers keys out o is p t' out' read h, promised M proper k m ab t os ops lines workers keys out)
 
-  pub refused-kept : (why : Refusal) → o.reply ≡ Refused why → Kept (record { phase = o.phase; reply = Refused why }) t out
+  pub refused-kept : (why : Refusal) → o.reply ≡ Err why → Kept (record { phase = o.phase; reply = Err why }) t out
   refused-kept why read = (refused-ran M k m ab t os ops lines workers keys out o is why read, promised M proper k m ab t os ops lines workers keys out)
 
 pub dealt-promise : DealtPromise
@@ -68,7 +68,7 @@ dealt-promise M k m ab t os ops lines workers keys out =
     let calls = if_accepted M k m ab t os ops lines workers keys out in
     let answers = told M k m ab t os (open_call M k m ab t os) in
     record {
-      accepted = λ e. ap calls (answers Accepted refl e);
-      promised = λ h e. subst (Claim M k m ab t os) (ap calls (answers Accepted refl e)) (h (answers Accepted refl e));
-      refused = λ r e. ap calls (answers (Refused r) refl e);
+      accepted = λ e. ap calls (answers (Ok tt) refl e);
+      promised = λ h e. subst (Claim M k m ab t os) (ap calls (answers (Ok tt) refl e)) (h (answers (Ok tt) refl e));
+      refused = λ r e. ap calls (answers (Err r) refl e);
     }

@@ -1,5 +1,5 @@
 -- The answers of calls as one number of 64 bits each, read in one way: below 2³² it is a value, from there up to 2³³ a refusal, from there on a word.
-use Rattle.std.specs.Prelude.{◌≡◌, ◌≢◌, List, ℕ, ◌+◌, ◌^◌, ◌≤◌, ◌<◌}
+use Rattle.std.specs.Prelude.{◌≡◌, ◌≢◌, List, ℕ, ◌+◌, ◌^◌, ◌≤◌, ◌<◌, Ok, Err}
 use Rattle.rule.specs.declared.Answer.{Answer}
 use Rattle.rule.specs.declared.Answer.TheVariants.{WentOn, Finished, Price, No}
 use Rattle.rule.specs.declared.Answer.TheVariants as answer
@@ -7,11 +7,9 @@ use Rattle.state.specs.Model.{Model}
 use Rattle.state.specs.Refusals.{number_of}
 use Rattle.state.specs.declared.Phase.{Phase}
 use Rattle.state.specs.declared.Refusal.{Refusal}
-use Rattle.state.specs.declared.Reply.{Reply}
-use Rattle.state.specs.declared.Reply.TheVariants.{Accepted, Refused}
+use Rattle.state.specs.Replies.{Reply}
 use Rattle.protocol.specs.Calls.{turn_call}
-use Rattle.protocol.specs.declared.TurnReply.{TurnReply}
-use Rattle.protocol.specs.declared.TurnReply.TheVariants as turnReply
+use Rattle.protocol.specs.Replies.{TurnReply}
 
 -- refusal n of the documents
 abbrev pub refused : ℕ → ℕ
@@ -35,13 +33,13 @@ step_answer answer.Idle = word 5
 
 -- of a turn
 abbrev pub turn_answer : TurnReply → ℕ
-turn_answer (turnReply.Answered a) = step_answer a
-turn_answer (turnReply.Refused r) = refusal_answer r
+turn_answer (Ok a) = step_answer a
+turn_answer (Err r) = refusal_answer r
 
 -- of a call that gives no value: 0 if it is accepted
 abbrev pub reply_answer : Reply → ℕ
-reply_answer Accepted = 0
-reply_answer (Refused r) = refusal_answer r
+reply_answer (Ok _) = 0
+reply_answer (Err r) = refusal_answer r
 
 -- ---- a price has 32 bits
 abbrev pub Fits : Answer → Type 0
@@ -52,8 +50,8 @@ Fits No = Unit {0}
 Fits answer.Idle = Unit {0}
 
 abbrev pub FitsReply : TurnReply → Type 0
-FitsReply (turnReply.Answered a) = Fits a
-FitsReply (turnReply.Refused r) = Unit {0}
+FitsReply (Ok a) = Fits a
+FitsReply (Err r) = Unit {0}
 
 -- in every turn's answer, whatever the phase state and the table. Proved in proofs/Fitting
 abbrev pub FitsPromise : Type 0
@@ -64,10 +62,10 @@ pub record NumbersPromise : Type 0 where
   -- a refusal's number is 2³² and its number in the documents, and below 2³³
   pub refusal : (r : Refusal) → (refusal_answer r ≡ 2 ^ 32 + number_of r) × (refusal_answer r < 2 ^ 33)
   -- so is the refusal of any call; an accepted call that gives no value answers 0
-  pub accepted : reply_answer Accepted ≡ 0
-  pub reply : (r : Refusal) → reply_answer (Refused r) ≡ 2 ^ 32 + number_of r
-  pub turn : (r : Refusal) → turn_answer (turnReply.Refused r) ≡ 2 ^ 32 + number_of r
-  pub answered : (a : Answer) → turn_answer (turnReply.Answered a) ≡ step_answer a
+  pub accepted : reply_answer (Ok tt) ≡ 0
+  pub reply : (r : Refusal) → reply_answer (Err r) ≡ 2 ^ 32 + number_of r
+  pub turn : (r : Refusal) → turn_answer (Err r) ≡ 2 ^ 32 + number_of r
+  pub answered : (a : Answer) → turn_answer (Ok a) ≡ step_answer a
   -- which word is which, and a price is itself
   pub went_on : step_answer WentOn ≡ 2 ^ 33 + 1
   pub finished : step_answer Finished ≡ 2 ^ 33 + 2

@@ -1,4 +1,2 @@
-pub mod Kept
-pub mod Lines
-pub mod Parallel
+pub mod Lists
 pub mod Theorem

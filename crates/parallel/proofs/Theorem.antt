@@ -3,7 +3,7 @@ use mathlib.Core.Path.{ap}
 use native.Mathlib.Omega.{arith}
 use Rattle.orders.specs.declared.Order.{Order}
 use Rattle.parallel.specs.Promise.{ThreeListsPromise}
-use Rattle.parallel.proofs.Parallel.{orders-length, order-at}
+use Rattle.parallel.proofs.Lists.{orders-length, order-at}
 
 pub three-lists : ThreeListsPromise
 three-lists ks ps ws =

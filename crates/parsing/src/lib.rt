@@ -3,18 +3,10 @@
 
 ghost use Rattle.std.specs.Prelude.{◌≡◌, drop};
 ghost use Rattle.text.specs.Fields.{fields_of};
-ghost use Rattle.lines.specs.Grammar.{command_of, unreadable, numbers_of, reading_of, most_numbers, kept_bytes};
-ghost use Rattle.parsing.specs.Named.{named_of};
+ghost use Rattle.lines.specs.Grammar.{word_of, command_of, numbers_of, reading_of, most_numbers, kept_bytes};
 
 use lines::{Command, Line, Numbers};
 use text::Scanned;
-
-// A command, and whether it is known.
-#[derive(Clone, Copy)]
-struct Named {
-    command: Command,
-    known: bool,
-}
 
 // The constants are those of the definitions.
 pub fn most_numbers() -> usize
@@ -29,123 +21,87 @@ pub fn kept_bytes() -> usize
     Line::KEPT
 }
 
-// The command of a word.
-fn command_of(s: &[u8]) -> Named
-    ensures { result ≡ named_of (command_of s.now) }
+// All commands.
+const COMMANDS: [Command; 8] = [
+    Command::Cells,
+    Command::Open,
+    Command::Item,
+    Command::Order,
+    Command::Turn,
+    Command::Run,
+    Command::Close,
+    Command::List,
+];
+
+// The word of a command.
+fn word_of(command: Command) -> &'static [u8]
+    ensures { result.now ≡ word_of command }
 {
-    if scanning::same_bytes(s, b"cells") {
-        return Named {
-            command: Command::Cells,
-            known: true,
-        };
-    }
-    if scanning::same_bytes(s, b"open") {
-        return Named {
-            command: Command::Open,
-            known: true,
-        };
-    }
-    if scanning::same_bytes(s, b"item") {
-        return Named {
-            command: Command::Item,
-            known: true,
-        };
-    }
-    if scanning::same_bytes(s, b"order") {
-        return Named {
-            command: Command::Order,
-            known: true,
-        };
-    }
-    if scanning::same_bytes(s, b"turn") {
-        return Named {
-            command: Command::Turn,
-            known: true,
-        };
-    }
-    if scanning::same_bytes(s, b"run") {
-        return Named {
-            command: Command::Run,
-            known: true,
-        };
-    }
-    if scanning::same_bytes(s, b"close") {
-        return Named {
-            command: Command::Close,
-            known: true,
-        };
-    }
-    if scanning::same_bytes(s, b"list") {
-        return Named {
-            command: Command::List,
-            known: true,
-        };
-    }
-    Named {
-        command: Command::Unknown,
-        known: false,
+    match command {
+        Command::Cells => b"cells",
+        Command::Open => b"open",
+        Command::Item => b"item",
+        Command::Order => b"order",
+        Command::Turn => b"turn",
+        Command::Run => b"run",
+        Command::Close => b"close",
+        Command::List => b"list",
     }
 }
 
-// No numbers that could be read.
-fn unreadable_numbers() -> Numbers
-    ensures { result ≡ unreadable }
+// The command of a word, if it is one's.
+#[tactic(auto, unfolding(lines::specs::Grammar::command_of))]
+fn command_of(word: &[u8]) -> Option<Command>
+    ensures { result ≡ command_of word.now }
 {
-    let values = [0u32; Line::MOST_NUMBERS];
-    Numbers {
-        readable: false,
-        count: 0,
-        values,
-    }
+    COMMANDS
+        .iter()
+        .copied()
+        .find(|command| scanning::same_bytes(word, word_of(*command)))
 }
 
-// The numbers that the fields of `s` from `from` on write.
-fn numbers_of(s: &[u8], from: usize) -> Numbers
+// The numbers that the fields of `s` from `from` on write, if all are readable and they are not too many.
+fn numbers_of(s: &[u8], from: usize) -> Option<Numbers>
     ensures { result ≡ numbers_of (fields_of (drop from s.now)) }
 {
-    let mut values = [0u32; Line::MOST_NUMBERS];
-    let mut count: usize = 0;
+    let mut values = [0; Line::MOST_NUMBERS];
     let mut at = from;
-    while count < Line::MOST_NUMBERS {
-        let Scanned::Number(n, end) = scanning::scan_number(s, at) else {
-            return unreadable_numbers();
-        };
-        values[count] = n;
-        count += 1;
+    for count in 0..Line::MOST_NUMBERS {
+        let Scanned { number, end } = scanning::scan_number(s, at)?;
+        values[count] = number;
         if s.len() <= end {
-            return Numbers {
-                readable: true,
-                count,
+            return Some(Numbers {
+                count: count + 1,
                 values,
-            };
+            });
         }
         at = end + 1;
     }
-    unreadable_numbers()
+    None
 }
 
 // What the line says; its end of line is not part of it.
 pub fn read_line(line: &[u8]) -> Line
     ensures { result ≡ reading_of line.now }
 {
-    let e = scanning::byte_at(line, b'\t');
-    let first = command_of(&line[..e]);
-    let command = first.command;
-    if !first.known {
-        let numbers = unreadable_numbers();
-        return Line { command, numbers };
-    }
-    if line.len() <= e {
-        let values = [0u32; Line::MOST_NUMBERS];
+    let end = scanning::byte_at(line, b'\t');
+    let Some(command) = command_of(&line[..end]) else {
         return Line {
-            command,
-            numbers: Numbers {
-                readable: true,
+            command: None,
+            numbers: None,
+        };
+    };
+    if line.len() <= end {
+        return Line {
+            command: Some(command),
+            numbers: Some(Numbers {
                 count: 0,
-                values,
-            },
+                values: [0; Line::MOST_NUMBERS],
+            }),
         };
     }
-    let numbers = numbers_of(line, e + 1);
-    Line { command, numbers }
+    Line {
+        command: Some(command),
+        numbers: numbers_of(line, end + 1),
+    }
 }

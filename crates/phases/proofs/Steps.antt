@@ -1,4 +1,5 @@
 -- One step of a worker, of any kind of phase: the state after it in one form, what it goes by, and what it leaves alone.
+use Rattle.std.specs.Prelude.{Option, ℕ, Some, None}
 use mathlib.Core.Path.{◌≡◌, refl, sym, ap, ap₂, ◌∙◌}
 use mathlib.Core.Bool.{Bool, true, false, cond}
 use mathlib.Core.List.{◌++◌}
@@ -13,8 +14,6 @@ use Rattle.ring.proofs.Split.{by-tri}
 use Rattle.activities.specs.declared.Activity.{Activity}
 use Rattle.activities.specs.declared.Activity.TheVariants.{Idle, Reading, Replacing, WalkingBack, SeekingForward, SeekingBack}
 use Rattle.rule.specs.declared.Outcome.{Outcome}
-use Rattle.rule.specs.declared.Place.{Place}
-use Rattle.rule.specs.declared.Place.TheVariants.{Nowhere, At}
 use Rattle.rule.specs.Rule.{touched, unmoved, insert_step, find_step, delete_step, rule}
 use Rattle.rule.specs.Events.{Run, worker, tells, stepped_at, stepped}
 use Rattle.activities.specs.Activities.{busy, entry_of}
@@ -95,10 +94,10 @@ alike k n key home s r w u same held =
           );
     }
   where
-    by : (p : Place) → touched (worker s w) ≡ p → w < length s.workers → u < length r.workers
+    by : (p : Option ℕ) → touched (worker s w) ≡ p → w < length s.workers → u < length r.workers
         → worker (stepped_at k n key home s w (worker s w) p) w ≡ worker (stepped_at k n key home r u (worker s w) p) u
-    by Nowhere is wl ul = same
-    by (At c) is wl ul = get_or-set_same s.workers w _ Idle wl
+    by None is wl ul = same
+    by (Some c) is wl ul = get_or-set_same s.workers w _ Idle wl
         ∙ ap (λ (x : ℕ). (rule k n key home (worker s w) x).activity) (held c is) ∙ sym (get_or-set_same r.workers u _ Idle ul)
 
 -- ---- what a step leaves alone
@@ -106,11 +105,11 @@ pub others : OthersPromise
 unfolding stepped
 others k n key home s w = by (touched (worker s w)) refl
   where
-    by : (p : Place) → touched (worker s w) ≡ p → OthersKept k n key home s w
-    by Nowhere is = record { cells = λ c ne. rw is; workers = λ u ne. rw is; sized = rw is }
-    by (At d) is =
+    by : (p : Option ℕ) → touched (worker s w) ≡ p → OthersKept k n key home s w
+    by None is = record { cells = λ c ne. rw is; workers = λ u ne. rw is; sized = rw is }
+    by (Some d) is =
         record {
-          cells = λ c ne. rw is (get_or-set_other s.table d c _ 0 (λ e. ne (is ∙ ap At (sym e))));
+          cells = λ c ne. rw is (get_or-set_other s.table d c _ 0 (λ e. ne (is ∙ ap Some (sym e))));
           workers = λ u ne. rw is (get_or-set_other s.workers w u _ Idle ne);
           sized = rw is (length-set s.table d _);
         }

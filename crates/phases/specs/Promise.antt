@@ -1,6 +1,6 @@
 -- What is promised of every list of events from the opening of a sound table on, however the steps fall: for every home rule, rule for
 -- labels, number of cells, number of workers and kind. A claim about a list is a claim about each of its front parts too.
-use Rattle.std.specs.Prelude.{◌≡◌, ◌≢◌, ◌↔◌, ◌⊎◌, List, [], ◌∷◌, ◌++◌, map, ℕ, suc, ◌+◌, ◌*◌, ◌^◌, ◌≤◌, ◌<◌, T, eqb, length, get_or}
+use Rattle.std.specs.Prelude.{◌≡◌, ◌≢◌, ◌↔◌, ◌⊎◌, List, [], ◌∷◌, ◌++◌, map, ℕ, suc, ◌+◌, ◌*◌, ◌^◌, ◌≤◌, ◌<◌, T, eqb, length, get_or, Some}
 use Rattle.ring.specs.Counting.{bit, over, count}
 use Rattle.layout.specs.Layout.{In, size}
 use Rattle.layout.specs.Sound.{Holds, Ordered}
@@ -9,7 +9,6 @@ use Rattle.prices.specs.Priced.{labels, SameLeast, PricedSound, priced_layout, w
 use Rattle.activities.specs.Activities.{activity_ok, entry_of}
 use Rattle.activities.specs.declared.Activity.TheVariants.{Idle}
 use Rattle.rule.specs.declared.Answer.{Answer}
-use Rattle.rule.specs.declared.Place.TheVariants.{At}
 use Rattle.rule.specs.Rule.{touched, rule}
 use Rattle.rule.specs.Events.{Said, Run, Event, step, worker, AllIdle, stepped, run, after}
 use Rattle.rule.specs.Schedules.{rounds}
@@ -166,18 +165,18 @@ answer_at k n key home s w c = (rule k n key home (worker s w) (get_or s.table c
 
 pub record Alike (k n : ℕ) (key home : ℕ → ℕ) (s r : Run) (w u : ℕ) : Type 0 where
   -- they answer alike, and leave the record and the cell alike
-  pub answers : (c : ℕ) → touched (worker s w) ≡ At c → answer_at k n key home s w c ≡ answer_at k n key home r u c
+  pub answers : (c : ℕ) → touched (worker s w) ≡ Some c → answer_at k n key home s w c ≡ answer_at k n key home r u c
   pub records : w < length s.workers → u < length r.workers → worker (stepped k n key home s w) w ≡ worker (stepped k n key home r u) u
-  pub cells : (c : ℕ) → touched (worker s w) ≡ At c → c < length s.table → c < length r.table
+  pub cells : (c : ℕ) → touched (worker s w) ≡ Some c → c < length s.table → c < length r.table
       → get_or (stepped k n key home s w).table c 0 ≡ get_or (stepped k n key home r u).table c 0
 
 abbrev pub AlikePromise : Type 0
 AlikePromise = (k n : ℕ) (key home : ℕ → ℕ) (s r : Run) (w u : ℕ) → worker s w ≡ worker r u
-    → ((c : ℕ) → touched (worker s w) ≡ At c → get_or s.table c 0 ≡ get_or r.table c 0) → Alike k n key home s r w u
+    → ((c : ℕ) → touched (worker s w) ≡ Some c → get_or s.table c 0 ≡ get_or r.table c 0) → Alike k n key home s r w u
 
 -- no other cell and no other worker's record changes
 pub record OthersKept (k n : ℕ) (key home : ℕ → ℕ) (s : Run) (w : ℕ) : Type 0 where
-  pub cells : (c : ℕ) → touched (worker s w) ≢ At c → get_or (stepped k n key home s w).table c 0 ≡ get_or s.table c 0
+  pub cells : (c : ℕ) → touched (worker s w) ≢ Some c → get_or (stepped k n key home s w).table c 0 ≡ get_or s.table c 0
   pub workers : (u : ℕ) → u ≢ w → worker (stepped k n key home s w) u ≡ worker s u
   -- and the table keeps its length
   pub sized : length (stepped k n key home s w).table ≡ length s.table

@@ -1,4 +1,5 @@
 -- Rounds by what the calls give.
+use Rattle.std.specs.Prelude.{Ok, Err}
 use mathlib.Core.Path.{◌≡◌, refl, sym, ap, subst, ◌∙◌}
 use mathlib.Core.Bool.{true, false, cond}
 use mathlib.Core.List.{List, [], ◌∷◌, ◌++◌}
@@ -14,15 +15,12 @@ use Rattle.state.specs.Counts.{count_number, counted_by, if_counted}
 use Rattle.state.specs.Model.{Model, model_of, size_ok}
 use Rattle.state.specs.Open.{opened, open_bars, open_reply, open_call}
 use Rattle.state.specs.Refusals.{if, reply_number, first_of}
-use Rattle.state.specs.declared.Counted.{Counted}
-use Rattle.state.specs.declared.Counted.TheVariants as counted
+use Rattle.state.specs.Replies.{Counted, Reply}
 use Rattle.state.specs.declared.Device.{Device}
 use Rattle.state.specs.declared.Phase.{Phase}
 use Rattle.state.specs.declared.Refusal.{Refusal}
 use Rattle.state.specs.declared.Refusal.TheVariants.{Size, ShortList}
 use Rattle.state.specs.declared.Replied.{Replied}
-use Rattle.state.specs.declared.Reply.{Reply}
-use Rattle.state.specs.declared.Reply.TheVariants.{Accepted, Refused}
 use Rattle.state.proofs.Model.{proper}
 use Rattle.state.proofs.Sequence.{or_else, first-append}
 use Rattle.protocol.proofs.Theorem.{opens}
@@ -44,10 +42,10 @@ module _ (M : Model) (k m : ℕ) (ab : Hash) (t : List ℕ) (os : List Order) (o
   pub reply-is : (r : Reply) → o.reply ≡ r → open_reply M k m ab t os ≡ r
   reply-is r e = sym (opens M k m ab t os).reply ∙ ap (λ (x : Replied). x.reply) (sym is) ∙ e
 
-  pub just-opened : o.reply ≡ Accepted → Fresh M k m ab t os o.phase
+  pub just-opened : o.reply ≡ Ok tt → Fresh M k m ab t os o.phase
   just-opened e =
-      let ok = reply-is Accepted e in
-      let whole : o ≡ opened M k m ab t Accepted = is ∙ ap (opened M k m ab t) ok in
+      let ok = reply-is (Ok tt) e in
+      let whole : o ≡ opened M k m ab t (Ok tt) = is ∙ ap (opened M k m ab t) ok in
       subst (λ (x : Replied). Fresh M k m ab t os x.phase) (sym whole)
       (record { opened = ap (opened M k m ab t) ok; kind = refl; crew = refl; hash = refl })
 
@@ -56,25 +54,25 @@ module _ (d : Device) (m : ℕ) (ab : Hash) (t : List ℕ) (os : List Order) whe
   abbrev laid : List ℕ
   laid = priced_layout (length t) label ((model_of d).home ab (length t)) (sent_entries os)
 
-  pub open-refused : (why : Refusal) → open_round (model_of d) m ab t os ≡ Refused why → Opens (model_of d) m ab t os (Refused why) t
+  pub open-refused : (why : Refusal) → open_round (model_of d) m ab t os ≡ Err why → Opens (model_of d) m ab t os (Err why) t
   open-refused why e = record { reply = sym e; table = sym (ap (λ (r : Reply). if_accepted r laid t) e) }
 
-  pub open-small : size_ok (model_of d) (length t) ≡ false → Opens (model_of d) m ab t os (Refused Size) t
+  pub open-small : size_ok (model_of d) (length t) ≡ false → Opens (model_of d) m ab t os (Err Size) t
   open-small e =
       let f : size_ok (model_of d) (length (empty (length t))) ≡ false = ap (size_ok (model_of d)) (length-replicate (length t) 0) ∙ e in
       open-refused Size (rw f)
 
-  pub open_done : open_round (model_of d) m ab t os ≡ Accepted → (u : List ℕ)
+  pub open_done : open_round (model_of d) m ab t os ≡ Ok tt → (u : List ℕ)
       → u ≡ priced_layout (length (empty (length t))) label ((model_of d).home ab (length (empty (length t)))) (sent_entries os ++ empty (length t))
-      → Opens (model_of d) m ab t os Accepted u
+      → Opens (model_of d) m ab t os (Ok tt) u
   open_done e u f = record { reply = sym e; table = f ∙ laid-on-empty (model_of d) (proper d) m ab t os e (sent_entries os) (λ y _. (λ h. h, λ h. h)) }
 
   -- o is the opening on an empty table, and u the emptied table
   module _ (o : Replied) (is : o ≡ open_call (model_of d) 1 m ab (empty (length t)) os) where
-    pub told-refused : (why : Refusal) → o.reply ≡ Refused why → Opens (model_of d) m ab t os (Refused why) t
-    told-refused why e = open-refused why (reply-is (model_of d) 1 m ab (empty (length t)) os o is (Refused why) e)
+    pub told-refused : (why : Refusal) → o.reply ≡ Err why → Opens (model_of d) m ab t os (Err why) t
+    told-refused why e = open-refused why (reply-is (model_of d) 1 m ab (empty (length t)) os o is (Err why) e)
 
-    module _ (told : o.reply ≡ Accepted) (u : List ℕ) (bare : u ≡ empty (length t)) where
+    module _ (told : o.reply ≡ Ok tt) (u : List ℕ) (bare : u ≡ empty (length t)) where
       begun : Fresh (model_of d) 1 m ab (empty (length t)) os o.phase
       begun = just-opened (model_of d) 1 m ab (empty (length t)) os o is told
 
@@ -82,10 +80,10 @@ module _ (d : Device) (m : ℕ) (ab : Hash) (t : List ℕ) (os : List Order) whe
       may-insert = (begun.kind, rw bare begun.opened)
 
       pub filled-up : (r : Reply) (u' : List ℕ)
-          → (r ≡ Accepted) × (u' ≡ priced_layout (length u) label ((model_of d).home o.phase.hash (length u)) (sent_entries os ++ u))
+          → (r ≡ Ok tt) × (u' ≡ priced_layout (length u) label ((model_of d).home o.phase.hash (length u)) (sent_entries os ++ u))
           → Opens (model_of d) m ab t os r u'
       filled-up r u' (ok, laid-is) =
-          rw ok (open_done (reply-is (model_of d) 1 m ab (empty (length t)) os o is Accepted told) u' (rw (bare, begun.hash) at laid-is))
+          rw ok (open_done (reply-is (model_of d) 1 m ab (empty (length t)) os o is (Ok tt) told) u' (rw (bare, begun.hash) at laid-is))
 
 -- ---- closing
 module _ (d : Device) (m : ℕ) (ab : Hash) (t : List ℕ) (rs : List Ack) (answers out : List ℕ) where
@@ -94,13 +92,13 @@ module _ (d : Device) (m : ℕ) (ab : Hash) (t : List ℕ) (rs : List Ack) (answ
 
   -- the checks of an opening that reads no list, then 12
   in_two : first_of (round_bars (model_of d) m ab t rs answers out)
-      ≡ or_else (open_reply (model_of d) 3 m ab t []) (cond (is_short t (length rs) (length answers) (length out)) (Refused ShortList) Accepted)
+      ≡ or_else (open_reply (model_of d) 3 m ab t []) (cond (is_short t (length rs) (length answers) (length out)) (Err ShortList) (Ok tt))
   in_two = first-append (open_bars (model_of d) 3 m ab t []) (if (is_short t (length rs) (length answers) (length out)) ShortList ∷ [])
 
-  as-refused : (why : Refusal) → first_of (round_bars (model_of d) m ab t rs answers out) ≡ Refused why
-      → Closes (model_of d) m ab t rs answers out (counted.Refused why) t answers out
+  as-refused : (why : Refusal) → first_of (round_bars (model_of d) m ab t rs answers out) ≡ Err why
+      → Closes (model_of d) m ab t rs answers out (Err why) t answers out
   as-refused why f =
-      let e : close_round (model_of d) m ab t rs answers out ≡ counted.Refused why = ap (counted_by (count_of left)) f in
+      let e : close_round (model_of d) m ab t rs answers out ≡ Err why = ap (counted_by (count_of left)) f in
       record {
         reply = sym e;
         table = sym (ap (λ (a : Counted). if_counted a left t) e);
@@ -108,16 +106,16 @@ module _ (d : Device) (m : ℕ) (ab : Hash) (t : List ℕ) (rs : List Ack) (answ
         list = sym (ap (λ (a : Counted). if_counted a (filled left out) out) e);
       }
 
-  pub close_refused : (why : Refusal) → open_reply (model_of d) 3 m ab t [] ≡ Refused why
-      → Closes (model_of d) m ab t rs answers out (counted.Refused why) t answers out
+  pub close_refused : (why : Refusal) → open_reply (model_of d) 3 m ab t [] ≡ Err why
+      → Closes (model_of d) m ab t rs answers out (Err why) t answers out
   close_refused why e = as-refused why (in_two ∙ rw e)
 
-  module _ (ok : open_reply (model_of d) 3 m ab t [] ≡ Accepted) where
-    pub close-short : is_short t (length rs) (length answers) (length out) ≡ true → Closes (model_of d) m ab t rs answers out (counted.Refused ShortList) t answers out
+  module _ (ok : open_reply (model_of d) 3 m ab t [] ≡ Ok tt) where
+    pub close-short : is_short t (length rs) (length answers) (length out) ≡ true → Closes (model_of d) m ab t rs answers out (Err ShortList) t answers out
     close-short e = as-refused ShortList (in_two ∙ rw (ok, e))
 
     module _ (fits : is_short t (length rs) (length answers) (length out) ≡ false) where
-      accepted : first_of (round_bars (model_of d) m ab t rs answers out) ≡ Accepted
+      accepted : first_of (round_bars (model_of d) m ab t rs answers out) ≡ Ok tt
       accepted = in_two ∙ rw (ok, fits)
 
       abbrev none : ℕ
@@ -129,7 +127,7 @@ module _ (d : Device) (m : ℕ) (ab : Hash) (t : List ℕ) (rs : List Ack) (answ
       pub places : length rs ≤ length answers
       places = (passed (model_of d) (proper d) m ab t rs answers out not-refused).places
 
-      pub may-delete : open_reply (model_of d) 2 m ab t [] ≡ Accepted
+      pub may-delete : open_reply (model_of d) 2 m ab t [] ≡ Ok tt
       may-delete = take-out-opens (model_of d) (proper d) m ab t rs answers out not-refused []
 
       -- the answers told, the table that is left and the list
@@ -164,8 +162,8 @@ module _ (d : Device) (m : ℕ) (ab : Hash) (t : List ℕ) (rs : List Ack) (answ
 -- ---- closing behind the checks: the find phase p was just opened, it left the table u, equal to t, and the answers ns, and o is the next opening
 module _ (d : Device) (p : Phase) (t : List ℕ) (rs : List Ack) (answers out : List ℕ) (is : p.kind ≡ 3) (begun : Opened (model_of d) [] p t)
     (fits : is_short t (length rs) (length answers) (length out) ≡ false) where
-  ok : open_reply (model_of d) 3 p.crew p.hash t [] ≡ Accepted
-  ok = subst (λ (k : ℕ). open_reply (model_of d) k p.crew p.hash t [] ≡ Accepted) is (reply-is (model_of d) p.kind p.crew p.hash t [] _ (sym begun) Accepted refl)
+  ok : open_reply (model_of d) 3 p.crew p.hash t [] ≡ Ok tt
+  ok = subst (λ (k : ℕ). open_reply (model_of d) k p.crew p.hash t [] ≡ Ok tt) is (reply-is (model_of d) p.kind p.crew p.hash t [] _ (sym begun) (Ok tt) refl)
 
   pub room : length rs ≤ length answers
   room = places d p.crew p.hash t rs answers out ok fits
@@ -193,17 +191,17 @@ module _ (d : Device) (p : Phase) (t : List ℕ) (rs : List Ack) (answers out : 
 
 -- ---- the whole of closing: o is the opening of the find phase
 module _ (d : Device) (m : ℕ) (ab : Hash) (t : List ℕ) (rs : List Ack) (answers out : List ℕ) (o : Replied) (is : o ≡ open_call (model_of d) 3 m ab t []) where
-  pub find-refused : (why : Refusal) → o.reply ≡ Refused why → Closes (model_of d) m ab t rs answers out (counted.Refused why) t answers out
-  find-refused why e = close_refused d m ab t rs answers out why (reply-is (model_of d) 3 m ab t [] o is (Refused why) e)
+  pub find-refused : (why : Refusal) → o.reply ≡ Err why → Closes (model_of d) m ab t rs answers out (Err why) t answers out
+  find-refused why e = close_refused d m ab t rs answers out why (reply-is (model_of d) 3 m ab t [] o is (Err why) e)
 
-  module _ (told : o.reply ≡ Accepted) where
+  module _ (told : o.reply ≡ Ok tt) where
     begun-find : Fresh (model_of d) 3 m ab t [] o.phase
     begun-find = just-opened (model_of d) 3 m ab t [] o is told
 
     -- n is the number of acknowledgements
     module _ (n : ℕ) (many : n ≡ length rs) where
-      pub find-short : is_short t n (length answers) (length out) ≡ true → Closes (model_of d) m ab t rs answers out (counted.Refused ShortList) t answers out
-      find-short e = close-short d m ab t rs answers out (reply-is (model_of d) 3 m ab t [] o is Accepted told) (rw many at e)
+      pub find-short : is_short t n (length answers) (length out) ≡ true → Closes (model_of d) m ab t rs answers out (Err ShortList) t answers out
+      find-short e = close-short d m ab t rs answers out (reply-is (model_of d) 3 m ab t [] o is (Ok tt) told) (rw many at e)
 
       pub may-settle : is_short t n (length answers) (length out) ≡ false
           → (o.phase.kind ≡ 3) × Opened (model_of d) [] o.phase t × (is_short t (length rs) (length answers) (length out) ≡ false)

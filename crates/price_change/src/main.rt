@@ -6,9 +6,10 @@ ghost use Rattle.std.specs.Prelude.{◌≡◌, ℕ, ◌+◌, ◌*◌, ◌%◌, �
 ghost use Rattle.state.specs.Counts.{count_value};
 
 use homes::Hash;
+use parallel::Parallel;
 use polling::{close_round, open_round};
 use prices::PRICES;
-use state::{Counted, Device, Refusal, Reply};
+use state::{Device, Refusal};
 use std::io;
 
 // The cells of the table, and the workers.
@@ -44,10 +45,7 @@ fn make_list(keys: &mut [u32], prices: &mut [u32], workers: &mut [u32])
 
 // Whether the label at place `i` replies.
 fn replies(i: usize) -> bool {
-    match i {
-        7 | 19 | 30 => false,
-        _ => true,
-    }
+    !matches!(i, 7 | 19 | 30)
 }
 
 // Gathers the replies and answers how many they are: from the last label to the first, and the last replies twice.
@@ -58,9 +56,7 @@ fn gather_replies(keys: &mut [u32], workers: &mut [u32]) -> usize
     let mut count: usize = 1;
     keys[0] = label(SENT - 1);
     workers[0] = 0;
-    let mut i = SENT;
-    while 0 < i {
-        i -= 1;
+    for i in (0..SENT).rev() {
         if replies(i) {
             keys[count] = label(i);
             workers[count] = (count % 4) as u32;
@@ -79,24 +75,21 @@ fn hash() -> Hash {
 }
 
 // Sends the change: opens the round.
-fn send(cells: &mut [u64]) -> Reply {
+fn send(cells: &mut [u64]) -> Result<(), Refusal> {
     let mut keys = [0u32; SENT];
     let mut prices = [0u32; SENT];
     let mut workers = [0u32; SENT];
     make_list(&mut keys, &mut prices, &mut workers);
-    open_round(
-        Device::Gateway,
-        CREW,
-        hash(),
-        cells,
-        &keys,
-        &prices,
-        &workers,
-    )
+    let list = Parallel {
+        keys: &keys,
+        prices: &prices,
+        workers: &workers,
+    };
+    open_round(Device::Gateway, CREW, hash(), cells, list)
 }
 
 // Hears the replies: closes the round, which lists the silent labels and counts them.
-fn hear(cells: &mut [u64], silent: &mut [u64]) -> Counted
+fn hear(cells: &mut [u64], silent: &mut [u64]) -> Result<usize, Refusal>
     ensures { count_value result ≤ length silent.new }
 {
     let mut keys = [0u32; REPLIES];
@@ -139,25 +132,21 @@ fn print_counts(rt: &impl Print, silent: usize) -> io::Result<()>
 
 // Prints the labels listed, each with its price.
 fn print_entries(rt: &impl Print, entries: &[u64]) -> io::Result<()> {
-    let mut i: usize = 0;
-    while i < entries.len() {
-        print_entry(rt, entries[i])?;
-        i += 1;
+    for entry in entries {
+        print_entry(rt, *entry)?;
     }
     Ok(())
 }
 
 fn main(rt: HostRuntime) -> io::Result<()> {
     let mut cells = [0u64; CELLS];
-    let sent = send(&mut cells);
-    if let Reply::Refused(why) = sent {
+    if let Err(why) = send(&mut cells) {
         return print_refused(&rt, why);
     }
     let mut silent = [0u64; SENT];
-    let heard = hear(&mut cells, &mut silent);
-    match heard {
-        Counted::Refused(why) => print_refused(&rt, why),
-        Counted::Count(count) => {
+    match hear(&mut cells, &mut silent) {
+        Err(why) => print_refused(&rt, why),
+        Ok(count) => {
             print_counts(&rt, count)?;
             print_entries(&rt, &silent[..count])
         }

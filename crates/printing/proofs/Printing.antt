@@ -1,4 +1,5 @@
 -- Bytes printed one after the other, and how many there are.
+use Rattle.std.specs.Prelude.{Ok, Err}
 use mathlib.Core.Path.{◌≡◌, ap, ◌∙◌}
 use mathlib.Core.List.{List, [], ◌∷◌, ◌++◌}
 use Prim.Native.Nat.{ℕ, suc, ◌+◌, ◌^◌, ◌≤◌, ◌<◌}
@@ -13,8 +14,7 @@ use Rattle.text.proofs.Digits.{few-digits}
 use Rattle.state.specs.Refusals.{number_of}
 use Rattle.state.specs.declared.Refusal.{Refusal}
 use Rattle.state.specs.declared.Refusal.TheVariants.{Size, Crew, Kind, Unsound, OtherTable, NoWorker, Blank, Busy, Full, Working, Shut, ShortList, Spoilt, WrongPrice, NoLine, LongList, Gap, Disorder, BadRecord, BadField, Even, Absent, Unfit, TestNumber}
-use Rattle.state.specs.declared.Reply.{Reply}
-use Rattle.state.specs.declared.Reply.TheVariants as reply
+use Rattle.state.specs.Replies.{Reply}
 use Rattle.printing.specs.Widths.{reply_width}
 use Rattle.printing.specs.Fields.{Printed, PrintedWithin, refusal_fields, reply_fields}
 
@@ -90,5 +90,5 @@ pub refusal-short : (r : Refusal) → length (refusal_fields r) ≤ reply_width
 refusal-short r = omega (arith, two_digits r)
 
 pub reply-short : (a : Reply) → length (reply_fields a) ≤ reply_width
-reply-short reply.Accepted = omega arith
-reply-short (reply.Refused r) = refusal-short r
+reply-short (Ok _) = omega arith
+reply-short (Err r) = refusal-short r

@@ -1,5 +1,5 @@
 -- What an output line says behind its number, as bytes: each field behind a tab.
-use Rattle.std.specs.Prelude.{◌≡◌, List, [], ◌∷◌, ◌++◌, ℕ, ◌+◌, ◌≤◌, length, take}
+use Rattle.std.specs.Prelude.{◌≡◌, List, [], ◌∷◌, ◌++◌, ℕ, ◌+◌, ◌≤◌, length, take, Option, Some, None, Ok, Err}
 use Rattle.std.proofs.lemmas.List.Edits.{sets}
 use Rattle.text.specs.Digits.{digits_of}
 use Rattle.prices.specs.Contents.{label, price}
@@ -8,12 +8,9 @@ use Rattle.rule.specs.declared.Answer.{Answer}
 use Rattle.rule.specs.declared.Answer.TheVariants.{WentOn, Finished, Price, No, Idle}
 use Rattle.state.specs.Refusals.{number_of}
 use Rattle.state.specs.declared.Refusal.{Refusal}
-use Rattle.state.specs.declared.Reply.{Reply}
-use Rattle.state.specs.declared.Reply.TheVariants as reply
-use Rattle.protocol.specs.declared.TurnReply.{TurnReply}
-use Rattle.protocol.specs.declared.TurnReply.TheVariants as turnReply
+use Rattle.state.specs.Replies.{Reply}
+use Rattle.protocol.specs.Replies.{TurnReply}
 use Rattle.dealing.specs.declared.Ended.{Ended}
-use Rattle.dealing.specs.declared.Finish.{Finish}
 use Rattle.printing.specs.declared.Told.{Told}
 use Rattle.printing.specs.declared.Told.TheVariants as told
 
@@ -46,23 +43,23 @@ abbrev pub refusal_fields : Refusal → List ℕ
 refusal_fields r = field refused ++ field (digits_of (number_of r))
 
 abbrev pub reply_fields : Reply → List ℕ
-reply_fields reply.Accepted = field ok
-reply_fields (reply.Refused r) = refusal_fields r
+reply_fields (Ok _) = field ok
+reply_fields (Err r) = refusal_fields r
 
 abbrev pub turn_fields : TurnReply → List ℕ
-turn_fields (turnReply.Answered a) = field (answer_word a)
-turn_fields (turnReply.Refused r) = refusal_fields r
+turn_fields (Ok a) = field (answer_word a)
+turn_fields (Err r) = refusal_fields r
 
 -- of a worker after a run: how its operation ended
-abbrev pub finish_word : Ended → List ℕ
-finish_word Ended.Nothing = none
-finish_word Ended.Finished = answer_word Finished
-finish_word (Ended.Price q) = answer_word (Price q)
-finish_word Ended.No = answer_word No
+abbrev pub finish_word : Option Ended → List ℕ
+finish_word None = none
+finish_word (Some Ended.Finished) = answer_word Finished
+finish_word (Some (Ended.Price q)) = answer_word (Price q)
+finish_word (Some Ended.No) = answer_word No
 
-abbrev pub finish_fields : List Finish → List ℕ
+abbrev pub finish_fields : List (Option Ended) → List ℕ
 finish_fields [] = []
-finish_fields (f ∷ fs) = field (finish_word f.ended) ++ finish_fields fs
+finish_fields (f ∷ fs) = field (finish_word f) ++ finish_fields fs
 
 -- of entries: each key followed by its price
 abbrev pub entry_fields : List ℕ → List ℕ
@@ -70,7 +67,7 @@ entry_fields [] = []
 entry_fields (e ∷ es) = field (digits_of (label e)) ++ (field (digits_of (price e)) ++ entry_fields es)
 
 -- in a phase of m workers: a call's answer, how the operations ended in a run, or the count and the entries of the table
-abbrev pub told_fields : Told → ℕ → List Finish → List ℕ → List ℕ
+abbrev pub told_fields : Told → ℕ → List (Option Ended) → List ℕ → List ℕ
 told_fields (told.Replied r) m fs t = reply_fields r
 told_fields (told.Turned r) m fs t = turn_fields r
 told_fields told.Ran m fs t = finish_fields (take m fs)

@@ -7,17 +7,16 @@ ghost use Rattle.words.specs.Words.{entries_of};
 ghost use Rattle.printing.specs.Widths.{word_width, reply_width, finishes_width, count_width, entry_width, told_width};
 ghost use Rattle.printing.specs.Fields.{Printed, PrintedWithin, field, answer_word, refusal_fields, reply_fields, turn_fields, finish_word, finish_fields, entry_fields, told_fields};
 
-use dealing::{Ended, Finish};
+use dealing::Ended;
 use prices::PRICES;
-use protocol::TurnReply;
 use rule::Answer;
-use state::{Phase, Refusal, Reply};
+use state::{Phase, Refusal};
 
 // What a line tells: the answer of a call; that workers ran; how many keys are listed.
 #[derive(Clone, Copy)]
 pub enum Told {
-    Replied(Reply),
-    Turned(TurnReply),
+    Replied(Result<(), Refusal>),
+    Turned(Result<Answer, Refusal>),
     Ran,
     Listed(usize),
 }
@@ -30,13 +29,13 @@ fn put_refusal(out: &mut [u8], at: usize, why: Refusal) -> usize
     writing::put_number(out, behind, why.number() as u64)
 }
 
-pub fn put_reply(out: &mut [u8], at: usize, reply: Reply) -> usize
+pub fn put_reply(out: &mut [u8], at: usize, reply: Result<(), Refusal>) -> usize
     requires { at + reply_width ≤ length out.old }
     ensures { Printed (reply_fields reply) out.old at out.new result }
 {
     match reply {
-        Reply::Accepted => writing::put_bytes(out, at, b"\tok"),
-        Reply::Refused(why) => put_refusal(out, at, why),
+        Ok(()) => writing::put_bytes(out, at, b"\tok"),
+        Err(why) => put_refusal(out, at, why),
     }
 }
 
@@ -53,43 +52,41 @@ fn put_answer(out: &mut [u8], at: usize, answer: Answer) -> usize
     }
 }
 
-pub fn put_turn(out: &mut [u8], at: usize, reply: TurnReply) -> usize
+pub fn put_turn(out: &mut [u8], at: usize, reply: Result<Answer, Refusal>) -> usize
     requires { at + reply_width ≤ length out.old }
     ensures { PrintedWithin reply_width (turn_fields reply) out.old at out.new result }
 {
     match reply {
-        TurnReply::Answered(answer) => put_answer(out, at, answer),
-        TurnReply::Refused(why) => put_refusal(out, at, why),
+        Ok(answer) => put_answer(out, at, answer),
+        Err(why) => put_refusal(out, at, why),
     }
 }
 
-fn put_finish(out: &mut [u8], at: usize, ended: Ended) -> usize
+fn put_finish(out: &mut [u8], at: usize, finish: Option<Ended>) -> usize
     requires { at + word_width ≤ length out.old }
-    ensures { PrintedWithin word_width (field (finish_word ended)) out.old at out.new result }
+    ensures { PrintedWithin word_width (field (finish_word finish)) out.old at out.new result }
 {
-    match ended {
-        Ended::Nothing => writing::put_bytes(out, at, b"\t-"),
-        Ended::Finished => put_answer(out, at, Answer::Finished),
-        Ended::Price(price) => put_answer(out, at, Answer::Price(price)),
-        Ended::No => put_answer(out, at, Answer::No),
+    match finish {
+        None => writing::put_bytes(out, at, b"\t-"),
+        Some(Ended::Finished) => put_answer(out, at, Answer::Finished),
+        Some(Ended::Price(price)) => put_answer(out, at, Answer::Price(price)),
+        Some(Ended::No) => put_answer(out, at, Answer::No),
     }
 }
 
 // The fields of the first `count` workers.
-fn put_finishes(out: &mut [u8], at: usize, finishes: [Finish; Phase::ROOM], count: usize) -> usize
+fn put_finishes(
+    out: &mut [u8],
+    at: usize,
+    finishes: [Option<Ended>; Phase::ROOM],
+    count: usize,
+) -> usize
     requires { at + finishes_width ≤ length out.old }
     ensures { PrintedWithin finishes_width (finish_fields (take count finishes)) out.old at out.new result }
 {
     let mut place = at;
-    let mut w: usize = 0;
-    while w < Phase::ROOM {
-        if count <= w {
-            return place;
-        }
-        let finish = finishes[w];
-        let ended = finish.ended;
-        place = put_finish(out, place, ended);
-        w += 1;
+    for finish in &finishes[..count.min(Phase::ROOM)] {
+        place = put_finish(out, place, *finish);
     }
     place
 }
@@ -120,10 +117,8 @@ fn put_entries(out: &mut [u8], at: usize, cells: &[u64]) -> usize
     ensures { PrintedWithin (entry_width * length cells.now) (entry_fields (entries_of cells.now)) out.old at out.new result }
 {
     let mut place = at;
-    let mut i: usize = 0;
-    while i < cells.len() {
-        place = put_entry(out, place, cells[i]);
-        i += 1;
+    for cell in cells {
+        place = put_entry(out, place, *cell);
     }
     place
 }
@@ -143,7 +138,7 @@ pub fn put_told(
     at: usize,
     told: Told,
     count: usize,
-    finishes: [Finish; Phase::ROOM],
+    finishes: [Option<Ended>; Phase::ROOM],
     cells: &[u64],
 ) -> usize
     requires { at + told_width (length cells.now) ≤ length out.old }

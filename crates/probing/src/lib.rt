@@ -12,18 +12,17 @@ ghost use Rattle.rule.specs.Rule.{insert_step, find_step};
 
 use activities::Activity;
 use prices::PRICES;
-use rule::{Answer, Outcome, Place};
+use rule::{Answer, Outcome};
 
-pub fn touched(activity: Activity) -> Place
+pub fn touched(activity: Activity) -> Option<u32>
     ensures { result ≡ Rule.touched activity }
 {
     match activity {
-        Activity::Idle => Place::Nowhere,
-        Activity::Reading { cell, .. } => Place::At(cell),
-        Activity::Replacing { cell, .. } => Place::At(cell),
-        Activity::WalkingBack { cell, .. } => Place::At(cell),
-        Activity::SeekingForward { at, .. } => Place::At(at),
-        Activity::SeekingBack { at, .. } => Place::At(at),
+        Activity::Idle => None,
+        Activity::Reading { cell, .. }
+        | Activity::Replacing { cell, .. }
+        | Activity::WalkingBack { cell, .. } => Some(cell),
+        Activity::SeekingForward { at, .. } | Activity::SeekingBack { at, .. } => Some(at),
     }
 }
 
@@ -77,25 +76,14 @@ pub fn reads_on(length: u32, entry: u64, cell: u32, content: u64) -> Outcome
 fn settled(entry: u64, content: u64) -> bool
     ensures { result ≡ Rule.settled label entry content }
 {
-    if content / PRICES == entry / PRICES {
-        content <= entry
-    } else {
-        false
-    }
+    content / PRICES == entry / PRICES && content <= entry
 }
 
 // Whether `seen`, replaced by `entry`, leaves nothing to carry: it has no key, or that of `entry` at a higher price.
 fn absorbed(entry: u64, seen: u64) -> bool
     ensures { result ≡ Rule.absorbed label entry seen }
 {
-    if seen / PRICES == 0 {
-        return true;
-    }
-    if seen / PRICES == entry / PRICES {
-        entry < seen
-    } else {
-        false
-    }
+    seen / PRICES == 0 || seen / PRICES == entry / PRICES && entry < seen
 }
 
 fn insert_reading(length: u32, entry: u64, cell: u32, content: u64) -> Outcome

@@ -1,4 +1,5 @@
 -- What a turn that is not refused answers.
+use Rattle.std.specs.Prelude.{Option, ℕ, Some, None, Ok}
 use mathlib.Core.Path.{◌≡◌, ap, ◌∙◌}
 use mathlib.Core.Logic.{◌≢◌, ◌⊎◌, inl, inr, ⊎_elim}
 use mathlib.Core.List.{List}
@@ -15,8 +16,6 @@ use Rattle.rule.specs.declared.Answer.{Answer}
 use Rattle.rule.specs.declared.Answer.TheVariants.{WentOn, Finished, Price, No}
 use Rattle.rule.specs.declared.Answer.TheVariants as answer
 use Rattle.rule.specs.declared.Outcome.{Outcome}
-use Rattle.rule.specs.declared.Place.{Place}
-use Rattle.rule.specs.declared.Place.TheVariants.{Nowhere, At}
 use Rattle.rule.proofs.Telling.{Tells, on, done, found, missed, still, rule-tells}
 use Rattle.rule.proofs.Suits.{nowhere-idle}
 use Rattle.state.specs.Model.{Model}
@@ -25,7 +24,6 @@ use Rattle.protocol.specs.Bars.{doing}
 use Rattle.protocol.specs.Calls.{moved_at}
 use Rattle.protocol.specs.Promise.{Answers}
 use Rattle.protocol.specs.WellFormed.{Kind}
-use Rattle.protocol.specs.declared.TurnReply.TheVariants.{Answered}
 use Rattle.protocol.proofs.Frames.{present, moved}
 
 -- ---- answers of four sorts
@@ -117,17 +115,17 @@ module _ (M : Model) (p : Phase) (t : List ℕ) (w : ℕ) where
   reached-tells : (c : ℕ) → Tells p.kind p.length label (doing p w) (get_or t c 0) (reached c)
   reached-tells c = rule-tells p.kind p.length label (M.home p.hash p.length) (doing p w) (get_or t c 0)
 
-  pub moved-answers : Kind p.kind → Suits p.kind p.length label (doing p w) → (q : Place) → touched (doing p w) ≡ q → (r : Answer)
-      → (moved_at M p t w q).reply ≡ Answered r → Answers p.kind (doing p w) (doing (moved_at M p t w q).phase w) r
-  moved-answers kind h Nowhere is r e = answers-idle p.kind (doing p w) (doing p w) r (nowhere-idle (doing p w) is) (cc)
-  moved-answers kind h (At c) is r e =
+  pub moved-answers : Kind p.kind → Suits p.kind p.length label (doing p w) → (q : Option ℕ) → touched (doing p w) ≡ q → (r : Answer)
+      → (moved_at M p t w q).reply ≡ Ok r → Answers p.kind (doing p w) (doing (moved_at M p t w q).phase w) r
+  moved-answers kind h None is r e = answers-idle p.kind (doing p w) (doing p w) r (nowhere-idle (doing p w) is) (cc)
+  moved-answers kind h (Some c) is r e =
       let same : (reached c).answer ≡ r = cc in
       rw (moved p w (reached c).activity (present p w c is), ← same)
       (tells-answers p.kind p.length label (doing p w) (get_or t c 0) (reached c) kind h (reached-tells c))
 
-  pub moved-price : (c q : ℕ) → (moved_at M p t w (At c)).reply ≡ Answered (Price q)
+  pub moved-price : (c q : ℕ) → (moved_at M p t w (Some c)).reply ≡ Ok (Price q)
       → (label (get_or t c 0) ≡ label (entry_of (doing p w))) × (price (get_or t c 0) ≡ q)
   moved-price c q e = price-holds p.kind p.length label (doing p w) (get_or t c 0) (reached c) (reached-tells c) q (cc)
 
-  pub moved-no : (c : ℕ) → (moved_at M p t w (At c)).reply ≡ Answered No → label (get_or t c 0) ≢ label (entry_of (doing p w))
+  pub moved-no : (c : ℕ) → (moved_at M p t w (Some c)).reply ≡ Ok No → label (get_or t c 0) ≢ label (entry_of (doing p w))
   moved-no c e = no-lacks p.kind p.length label (doing p w) (get_or t c 0) (reached c) (reached-tells c) (cc)

@@ -1,4 +1,5 @@
 -- The calls' sequences of refusals, each test with what it says.
+use Rattle.std.specs.Prelude.{Option, ℕ, Some, None}
 use mathlib.Core.Path.{◌≡◌, refl}
 use mathlib.Core.Logic.{◌≢◌, ⊎_elim}
 use mathlib.Core.Bool.{not}
@@ -24,8 +25,6 @@ use Rattle.activities.specs.Kinds.{kind_ok}
 use Rattle.activities.specs.declared.Activity.TheVariants.{Idle}
 use Rattle.activities.proofs.Activities.{idle-says}
 use Rattle.rule.specs.Rule.{touched}
-use Rattle.rule.specs.declared.Place.{Place}
-use Rattle.rule.specs.declared.Place.TheVariants.{Nowhere, At}
 use Rattle.state.specs.Model.{Model, size_ok, crew_ok}
 use Rattle.state.specs.Open.{crowded}
 use Rattle.state.specs.Refusals.{reply_number}
@@ -35,7 +34,7 @@ use Rattle.protocol.specs.Bars.{doing, all_idle}
 use Rattle.protocol.specs.Calls.{turn_number, moved_at, turn_check, turn_call}
 use Rattle.protocol.specs.IsWellFormed.{is_well_formed}
 use Rattle.protocol.specs.Lines.{Priced, Mispriced}
-use Rattle.protocol.proofs.Lines.{apart, blank_first, test_first, price-first, worker-first, fills-says}
+use Rattle.protocol.proofs.Lines.{fault_number, apart, blank_first, test_first, price-first, worker-first, fills-says}
 use Rattle.protocol.proofs.Pricing.{price-says, wrong-says}
 use Rattle.protocol.proofs.Chain.{Step, barring, wanting, testing, reaching, by-reply}
 use Rattle.protocol.proofs.WellFormed.{all-idle-says, some-busy, well-formed-says}
@@ -97,10 +96,10 @@ module _ (M : Model) (k m : ℕ) (ab : Hash) (t : List ℕ) where
         apart = λ l h. omega arith;
       }
       ∷ sound_steps M ab t
-      ++ barring (eqb (lines_fault m os) 7) (blank_first m os) Blank
-      ∷ barring (eqb (lines_fault m os) 24) (test_first m os) TestNumber
-      ∷ barring (eqb (lines_fault m os) 14) (price-first m os) WrongPrice
-      ∷ barring (eqb (lines_fault m os) 6) (worker-first m os) NoWorker
+      ++ barring (eqb (fault_number (lines_fault m os)) 7) (blank_first m os) Blank
+      ∷ barring (eqb (fault_number (lines_fault m os)) 24) (test_first m os) TestNumber
+      ∷ barring (eqb (fault_number (lines_fault m os)) 14) (price-first m os) WrongPrice
+      ∷ barring (eqb (fault_number (lines_fault m os)) 6) (worker-first m os) NoWorker
       ∷ barring (crowded t os) (fills-says t os) Full
       ∷ []
 
@@ -152,9 +151,9 @@ module _ (M : Model) (p : Phase) where
     abbrev pub turn_steps : List Step
     turn_steps = phase_steps ++ wanting (eqb p.length (length t)) (equal-says p.length (length t)) OtherTable ∷ number_steps w
 
-    moved-number : (c : Place) → turn_number (moved_at M p t w c).reply ≡ 0
-    moved-number Nowhere = refl
-    moved-number (At c) = refl
+    moved-number : (c : Option ℕ) → turn_number (moved_at M p t w c).reply ≡ 0
+    moved-number None = refl
+    moved-number (Some c) = refl
 
     pub turn-number : turn_number (turn_call M p t w).reply ≡ reply_number (turn_check M p t w)
     turn-number = by-reply (turn_check M p t w) (λ e. rw e (moved-number (touched (doing p w)))) (λ _ e. rw e)

@@ -1,4 +1,5 @@
 -- A sequence of refusals decides as its cases say: each test is known by what it says where it holds and where it does not, and the numbers are distinct.
+use Rattle.std.specs.Prelude.{Ok, Err}
 use mathlib.Core.Path.{◌≡◌, refl, sym, ◌∙◌}
 use mathlib.Core.Logic.{◌≢◌, ◌↔◌}
 use mathlib.Core.Bool.{Bool, true, false, not, cond}
@@ -11,8 +12,7 @@ use Rattle.ring.proofs.Tests.{tested, by-test, not_both}
 use Rattle.state.specs.Refusals.{number_of, reply_number, Bar, first_of}
 use Rattle.state.specs.declared.Refusal.{Refusal}
 use Rattle.state.specs.declared.Refusal.TheVariants.{Size, Crew, Kind, Unsound, OtherTable, NoWorker, Blank, Busy, Full, Working, Shut, ShortList, Spoilt, WrongPrice, NoLine, LongList, Gap, Disorder, BadRecord, BadField, Even, Absent, Unfit, TestNumber}
-use Rattle.state.specs.declared.Reply.{Reply}
-use Rattle.state.specs.declared.Reply.TheVariants.{Accepted, Refused}
+use Rattle.state.specs.Replies.{Reply}
 use Rattle.protocol.specs.Cases.{Case, DecidesFrom, Decides}
 
 -- ---- a refusal with its test, and what the test says where it holds (applies) and where it does not (passes)
@@ -93,7 +93,7 @@ reply-among (s ∷ c) = at-test s.when (reply-among c)
     more true e = refl
     more false e = e
 
-    at-test : (w : Bool) → among (reply_number (first_of (bars_of c))) c ≡ true → among (reply_number (cond w (Refused s.why) (first_of (bars_of c)))) (s ∷ c) ≡ true
+    at-test : (w : Bool) → among (reply_number (first_of (bars_of c))) c ≡ true → among (reply_number (cond w (Err s.why) (first_of (bars_of c)))) (s ∷ c) ≡ true
     at-test true e = rw (eq-eqb (number_of s.why) (number_of s.why) refl)
     at-test false e = more (eqb (reply_number (first_of (bars_of c))) (number_of s.why)) e
 
@@ -149,9 +149,9 @@ decides-last c d B r same passes applies ((to, from), (none, all)) = (
 )
 
 -- ---- any call is accepted or refused
-pub by-reply {ℓ} : {C : Type ℓ} (r : Reply) → (r ≡ Accepted → C) → ((q : Refusal) → r ≡ Refused q → C) → C
-by-reply Accepted f g = f refl
-by-reply (Refused q) f g = g q refl
+pub by-reply {ℓ} : {C : Type ℓ} (r : Reply) → (r ≡ Ok tt → C) → ((q : Refusal) → r ≡ Err q → C) → C
+by-reply (Ok _) f g = f refl
+by-reply (Err q) f g = g q refl
 
 -- no refusal has the number 0, so a call with that number is accepted
 refusal-number : (q : Refusal) → number_of q ≢ 0
@@ -180,6 +180,6 @@ refusal-number Absent e = omega arith
 refusal-number Unfit e = omega arith
 refusal-number TestNumber e = omega arith
 
-pub none-accepted : (r : Reply) → reply_number r ≡ 0 → r ≡ Accepted
-none-accepted Accepted e = refl
-none-accepted (Refused q) e = absurd (refusal-number q e)
+pub none-accepted : (r : Reply) → reply_number r ≡ 0 → r ≡ Ok tt
+none-accepted (Ok _) e = refl
+none-accepted (Err q) e = absurd (refusal-number q e)

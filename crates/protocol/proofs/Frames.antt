@@ -1,4 +1,5 @@
 -- What a call leaves of a phase state, and of the worker that it moves.
+use Rattle.std.specs.Prelude.{Option, ℕ, Some, None}
 use mathlib.Core.Path.{◌≡◌, refl, ap, ap₂, ◌∙◌}
 use mathlib.Core.Bool.{Bool}
 use mathlib.Core.List.{List}
@@ -13,8 +14,6 @@ use Rattle.activities.specs.declared.Activity.{Activity}
 use Rattle.activities.specs.declared.Activity.TheVariants.{Reading}
 use Rattle.activities.specs.declared.Worker.{Worker}
 use Rattle.rule.specs.Rule.{touched, start}
-use Rattle.rule.specs.declared.Place.{Place}
-use Rattle.rule.specs.declared.Place.TheVariants.{Nowhere, At}
 use Rattle.state.specs.Model.{Model}
 use Rattle.state.specs.declared.Phase.{Phase}
 use Rattle.protocol.specs.Bars.{doing}
@@ -24,7 +23,7 @@ use Rattle.protocol.proofs.Pricing.{entry_key}
 
 -- ---- one worker
 -- a worker that touches a cell is in the list of workers
-pub present : (p : Phase) (w c : ℕ) → touched (doing p w) ≡ At c → w < length p.workers
+pub present : (p : Phase) (w c : ℕ) → touched (doing p w) ≡ Some c → w < length p.workers
 present p w c is = by-lt w (length p.workers) (λ l. l) (λ l.
     let e : get_or p.workers w idle ≡ idle = get_or-eq_default p.workers idle l in
     absurd (let z : ◌≡◌ {A = ℕ} 0 1 = cc in omega arith))
@@ -67,6 +66,6 @@ shut-ends p = record { frame = record { kind = refl; cells = refl; crew = refl; 
 
 -- ---- a turn that moves its worker
 module _ (M : Model) (p : Phase) (t : List ℕ) (w : ℕ) where
-  pub moved-others : (q : Place) → ButFor w p (moved_at M p t w q).phase
-  moved-others Nowhere = but-self w p
-  moved-others (At c) = but-worker w p _
+  pub moved-others : (q : Option ℕ) → ButFor w p (moved_at M p t w q).phase
+  moved-others None = but-self w p
+  moved-others (Some c) = but-worker w p _

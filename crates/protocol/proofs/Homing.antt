@@ -1,4 +1,5 @@
 -- A delete's turns by the home of a key.
+use Rattle.std.specs.Prelude.{Ok}
 use mathlib.Core.Path.{◌≡◌, refl, ap, ◌∙◌, subst, sym}
 use mathlib.Core.Logic.{◌≢◌, ◌⊎◌, inl, inr}
 use mathlib.Core.Bool.{true, false}
@@ -13,7 +14,6 @@ use Rattle.activities.specs.declared.Activity.TheVariants.{WalkingBack, SeekingF
 use Rattle.rule.specs.Rule.{fits, narrow, delete_step, rule}
 use Rattle.rule.specs.declared.Answer.TheVariants.{Finished}
 use Rattle.protocol.specs.Promise.{home_in, Taken, HomingPromise}
-use Rattle.protocol.specs.declared.TurnReply.TheVariants.{Answered}
 use Rattle.protocol.proofs.Meeting.{replies, leads}
 use Rattle.protocol.proofs.Theorem.{turn-accepted}
 
@@ -78,7 +78,7 @@ homing M p t w z is =
     let home = home_in M p in
     record {
       ends = λ v i on other at.
-          rw e (replies M p t w (WalkingBack v i) i on refl ∙ ap Answered (back-ends p.kind n home is v i (get_or t i 0) other at));
+          rw e (replies M p t w (WalkingBack v i) i on refl ∙ ap Ok (back-ends p.kind n home is v i (get_or t i 0) other at));
       walks = λ v i on other at.
           rw e (leads M p t w (WalkingBack v i) i on refl ∙ back-walks p.kind n home is v i (get_or t i 0) other at);
       takes = λ v i j on l.

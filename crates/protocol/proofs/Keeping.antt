@@ -1,4 +1,5 @@
 -- A call keeps a well-formed phase state well formed, also one that no opening and no calls lead to; and what an opening hands back is well formed.
+use Rattle.std.specs.Prelude.{Option, ℕ, Some, None}
 use mathlib.Core.Path.{◌≡◌, sym, ap, ◌∙◌}
 use mathlib.Core.Logic.{◌≢◌}
 use mathlib.Core.Bool.{true, false}
@@ -18,8 +19,6 @@ use Rattle.activities.specs.declared.Activity.{Activity}
 use Rattle.activities.specs.declared.Activity.TheVariants.{Idle}
 use Rattle.activities.specs.declared.Worker.{Worker}
 use Rattle.rule.specs.Rule.{touched, start}
-use Rattle.rule.specs.declared.Place.{Place}
-use Rattle.rule.specs.declared.Place.TheVariants.{Nowhere, At}
 use Rattle.rule.proofs.Suits.{rule-suits}
 use Rattle.state.specs.Model.{Model, model_of}
 use Rattle.state.specs.Open.{open_call}
@@ -73,9 +72,9 @@ module _ (M : Model) (p : Phase) (good : WellFormed M p) where
   pub turn-keeps : (t : List ℕ) (w : ℕ) → WellFormed M (turn_call M p t w).phase
   turn-keeps t w = by-reply (turn_check M p t w) (λ e. rw e (at_place (turn-passed M p t w e).3 (touched (doing p w)))) (λ _ e. rw e good)
     where
-      at_place : w < p.crew → (q : Place) → WellFormed M (moved_at M p t w q).phase
-      at_place below Nowhere = good
-      at_place below (At c) =
+      at_place : w < p.crew → (q : Option ℕ) → WellFormed M (moved_at M p t w q).phase
+      at_place below None = good
+      at_place below (Some c) =
           with-worker w _ below (rule-suits p.kind p.length label (M.home p.hash p.length) (doing p w) (get_or t c 0) (good.workers w below))
 
 pub keeps : KeepsPromise

@@ -14,6 +14,5 @@ pub mod Soundness
 pub mod Split
 pub mod Theorem
 pub mod Turning
-pub mod Walk
 pub mod WellFormed
 pub mod Writing

@@ -9,7 +9,7 @@ use borrow.Author.Tests.{le-leb}
 use lib.Dec.{leb}
 use lib.ListN.{length}
 use Rattle.homes.specs.declared.Hash.{Hash}
-use Rattle.orders.specs.declared.Found.{Found}
+use Rattle.std.specs.Prelude.{Option}
 use Rattle.orders.specs.declared.Order.{Order}
 use Rattle.state.specs.Model.{gateway, model_of}
 use Rattle.state.specs.Open.{open_call}
@@ -60,7 +60,7 @@ module _ (d : Device) where
     there : is_well_formed gateway p ≡ true
     there = (well-formed gateway p).1 ((formed-within p).0 h).0
 
-    pub order_alike : (l : Found) (w v : ℕ) → order_found (model_of d) p l w v ≡ order_found gateway p l w v
+    pub order_alike : (l : Option Order) (w v : ℕ) → order_found (model_of d) p l w v ≡ order_found gateway p l w v
     order_alike l w v = rw (here, there)
 
     pub turn-alike : (t : List ℕ) (w : ℕ) → turn_call (model_of d) p t w ≡ turn_call gateway p t w

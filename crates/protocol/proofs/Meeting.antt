@@ -1,4 +1,5 @@
 -- An insert that meets its own key: what stands at no higher price finishes it, a higher price is replaced, and then it is finished too; any other key is carried on.
+use Rattle.std.specs.Prelude.{Option, ℕ, Some, Ok}
 use mathlib.Core.Path.{◌≡◌, refl, ap, ◌∙◌}
 use mathlib.Core.Logic.{◌≢◌, ◌⊎◌, ⊎_elim}
 use mathlib.Core.Bool.{true, false}
@@ -17,13 +18,10 @@ use Rattle.activities.specs.declared.Activity.TheVariants.{Reading, Replacing}
 use Rattle.rule.specs.Rule.{touched, settled, absorbed, insert_step, rule}
 use Rattle.rule.specs.declared.Answer.TheVariants.{Finished}
 use Rattle.rule.specs.declared.Outcome.{Outcome}
-use Rattle.rule.specs.declared.Place.{Place}
-use Rattle.rule.specs.declared.Place.TheVariants.{At}
 use Rattle.state.specs.Model.{Model}
 use Rattle.state.specs.declared.Phase.{Phase}
 use Rattle.protocol.specs.Bars.{doing}
 use Rattle.protocol.specs.Calls.{moved_at}
-use Rattle.protocol.specs.declared.TurnReply.TheVariants.{Answered}
 use Rattle.protocol.proofs.Frames.{present, moved}
 
 -- ---- by the rule
@@ -79,36 +77,36 @@ module _ (M : Model) (p : Phase) (t : List ℕ) (w : ℕ) where
   outcome a c = rule p.kind p.length label (M.home p.hash p.length) a (get_or t c 0)
 
   -- of a worker doing a that touches cell c
-  module _ (a : Activity) (c : ℕ) (on : doing p w ≡ a) (at : touched a ≡ At c) where
-    place : touched (doing p w) ≡ At c
+  module _ (a : Activity) (c : ℕ) (on : doing p w ≡ a) (at : touched a ≡ Some c) where
+    place : touched (doing p w) ≡ Some c
     place = ap touched on ∙ at
 
-    pub replies : (moved_at M p t w (touched (doing p w))).reply ≡ Answered (outcome a c).answer
+    pub replies : (moved_at M p t w (touched (doing p w))).reply ≡ Ok (outcome a c).answer
     replies =
-        ap (λ (q : Place). (moved_at M p t w q).reply) place ∙ ap (λ (b : Activity). Answered (outcome b c).answer) on
+        ap (λ (q : Option ℕ). (moved_at M p t w q).reply) place ∙ ap (λ (b : Activity). Ok (outcome b c).answer) on
 
     pub leads : doing (moved_at M p t w (touched (doing p w))).phase w ≡ (outcome a c).activity
     leads =
-        ap (λ (q : Place). doing (moved_at M p t w q).phase w) place
+        ap (λ (q : Option ℕ). doing (moved_at M p t w q).phase w) place
         ∙ moved p w (outcome (doing p w) c).activity (present p w c place)
         ∙ ap (λ (b : Activity). (outcome b c).activity) on
 
   -- ---- of an insert phase
   module _ (is : p.kind ≡ 1) where
     module _ (v i : ℕ) (on : doing p w ≡ Reading v i) (own : label (get_or t i 0) ≡ label v) where
-      pub moved-stands : price (get_or t i 0) ≤ price v → (moved_at M p t w (touched (doing p w))).reply ≡ Answered Finished
+      pub moved-stands : price (get_or t i 0) ≤ price v → (moved_at M p t w (touched (doing p w))).reply ≡ Ok Finished
       moved-stands l =
-          replies (Reading v i) i on refl ∙ ap Answered (own-stands p.kind p.length (M.home p.hash p.length) is v i (get_or t i 0) own l)
+          replies (Reading v i) i on refl ∙ ap Ok (own-stands p.kind p.length (M.home p.hash p.length) is v i (get_or t i 0) own l)
 
       pub moved-undercut : price v < price (get_or t i 0) → doing (moved_at M p t w (touched (doing p w))).phase w ≡ Replacing v i i (get_or t i 0)
       moved-undercut l =
           leads (Reading v i) i on refl ∙ own-undercut p.kind p.length (M.home p.hash p.length) is v i (get_or t i 0) own l
 
     module _ (v i j x : ℕ) (on : doing p w ≡ Replacing v i j x) (held : get_or t i 0 ≡ x) where
-      pub moved-replaced : ((label x ≡ label v) × (price v < price x)) ⊎ (label x ≡ 0) → (moved_at M p t w (touched (doing p w))).reply ≡ Answered Finished
+      pub moved-replaced : ((label x ≡ label v) × (price v < price x)) ⊎ (label x ≡ 0) → (moved_at M p t w (touched (doing p w))).reply ≡ Ok Finished
       moved-replaced h =
           replies (Replacing v i j x) i on refl
-          ∙ ap Answered (own-replaced p.kind p.length (M.home p.hash p.length) is v i j x (get_or t i 0) held h)
+          ∙ ap Ok (own-replaced p.kind p.length (M.home p.hash p.length) is v i j x (get_or t i 0) held h)
 
       pub moved-carries : label x ≢ 0 → (label x ≡ label v → price x ≤ price v)
           → doing (moved_at M p t w (touched (doing p w))).phase w ≡ Reading x (next p.length i)

@@ -1,4 +1,5 @@
 -- The promises on refusals.
+use Rattle.std.specs.Prelude.{Some, Ok, Err}
 use mathlib.Core.Path.{◌≡◌, refl, sym, ◌∙◌, ap, subst}
 use mathlib.Core.Logic.{◌≢◌, ◌↔◌}
 use mathlib.Core.Bool.{Bool, true, false, not}
@@ -18,7 +19,7 @@ use Rattle.prices.specs.Contents.{label, content}
 use Rattle.prices.specs.Priced.{labels}
 use Rattle.flaws.specs.Promise.{Intact}
 use Rattle.flaws.proofs.Theorem.{theorem as flaws}
-use Rattle.orders.specs.Orders.{order_with, blank, ordered_keys, line_at}
+use Rattle.orders.specs.Orders.{order_with, blank, ordered_keys, line_at, lines_fault}
 use Rattle.orders.specs.declared.Order.{Order}
 use Rattle.activities.specs.Activities.{is_idle}
 use Rattle.activities.specs.declared.Activity.TheVariants.{Idle}
@@ -26,29 +27,26 @@ use Rattle.activities.proofs.Activities.{cells-below}
 use Rattle.rule.specs.Rule.{touched}
 use Rattle.rule.specs.declared.Answer.{Answer}
 use Rattle.rule.specs.declared.Answer.TheVariants.{Price, No}
-use Rattle.rule.specs.declared.Place.TheVariants.{At}
 use Rattle.rule.proofs.Suits.{touched-below}
 use Rattle.state.specs.Model.{Model, Proper}
 use Rattle.state.specs.Open.{open_reply, open_call}
 use Rattle.state.specs.Refusals.{reply_number}
 use Rattle.state.specs.declared.Phase.{Phase}
 use Rattle.state.specs.declared.Refusal.{Refusal}
-use Rattle.state.specs.declared.Reply.{Reply}
-use Rattle.state.specs.declared.Reply.TheVariants.{Accepted, Refused}
+use Rattle.state.specs.Replies.{Reply}
 use Rattle.protocol.specs.Bars.{doing, adds_test, mispriced}
 use Rattle.protocol.specs.IsWellFormed.{is_well_formed}
 use Rattle.protocol.specs.Calls.{turn_number, asked, missing, entry_for, close_reply, close_call, order_reply, order_to, found_reply, order_call, turn_check, moved_at, turn_call}
 use Rattle.protocol.specs.Cases.{Decides}
 use Rattle.protocol.specs.Promise.{HashUntestedPromise, SoundIn, Soundness, GappedIn, DisorderedIn, insert_cases, other_cases, line_order_cases, handed_cases, Starts, Answers, turn_cases, WellFormedPromise, OpenPromise, OrderPromise, TurnPromise, ClosePromise}
 use Rattle.protocol.specs.WellFormed.{Size, Crew, Kind, WellFormed}
-use Rattle.protocol.specs.declared.TurnReply.TheVariants.{Answered}
 use Rattle.protocol.proofs.Answering.{moved-answers, moved-price, moved-no}
 use Rattle.protocol.proofs.Calls.{insert_steps, other_steps, line_order_steps, handed_steps, turn_steps, turn-number, close_steps}
 use Rattle.protocol.proofs.Chain.{decides, by-reply, none-accepted}
 use Rattle.protocol.proofs.Frames.{but-self, ordered-starts, shut-ends, moved-others}
 use Rattle.protocol.proofs.Meeting.{moved-stands, moved-undercut, moved-replaced, moved-carries}
 use Rattle.protocol.specs.Lines.{Priced, ShopKey, Good, Fills}
-use Rattle.protocol.proofs.Lines.{apart, all-good, fills-says}
+use Rattle.protocol.proofs.Lines.{line-order, line-lacks, fault-bars, apart, all-good, fills-says}
 use Rattle.protocol.proofs.Opening.{fresh-resting}
 use Rattle.protocol.proofs.WellFormed.{well-formed-says}
 use Rattle.protocol.proofs.Soundness.{sounds}
@@ -68,11 +66,11 @@ module _ (M : Model) (k m : ℕ) (ab : Hash) (t : List ℕ) (os : List Order) wh
   open-number : open-answer ≡ reply_number (open_reply M k m ab t os)
   open-number = ap reply_number open-reply
 
-  open-accepted : open-answer ≡ 0 → open_reply M k m ab t os ≡ Accepted
+  open-accepted : open-answer ≡ 0 → open_reply M k m ab t os ≡ Ok tt
   open-accepted z = none-accepted (open_reply M k m ab t os) (sym open-number ∙ z)
 
   insert-decides : k ≡ 1 → Decides open-answer (insert_cases M k m ab t os)
-  insert-decides is = decides (insert_steps M k m ab t os) refl open-answer (open-number ∙ rw (eq-eqb k 1 is))
+  insert-decides is = decides (insert_steps M k m ab t os) refl open-answer (open-number ∙ rw (eq-eqb k 1 is, fault-bars (lines_fault m os)))
 
   other-decides : k ≢ 1 → Decides open-answer (other_cases M k m ab t)
   other-decides ne = decides (other_steps M k m ab t) refl open-answer (open-number ∙ rw (ne_eqb k 1 ne))
@@ -113,7 +111,7 @@ module _ (M : Model) (k m : ℕ) (ab : Hash) (t : List ℕ) (os : List Order) wh
   number_passed : open-answer ≡ 0 → OpenPassed
   number_passed z = by-eq k 1 (λ is. insert-passed is z) (λ ne. other-passed ne z)
 
-  pub open-passed : open_reply M k m ab t os ≡ Accepted → OpenPassed
+  pub open-passed : open_reply M k m ab t os ≡ Ok tt → OpenPassed
   open-passed e = number_passed (open-number ∙ ap reply_number e)
 
   -- ---- an opening that has passed all this is accepted
@@ -145,7 +143,7 @@ module _ (M : Model) (k m : ℕ) (ab : Hash) (t : List ℕ) (os : List Order) wh
       behind : {B F G P Q : Type 0} → P ↔ (B × F) → Q ↔ (B × G) → B → (P ↔ F) × (Q ↔ G)
       behind p q b = ((λ x. (p.0 x).1, λ f. p.1 (b, f)), (λ x. (q.0 x).1, λ g. q.1 (b, g)))
 
-  pub passed-opens : Proper M → OpenPassed → open_reply M k m ab t os ≡ Accepted
+  pub passed-opens : Proper M → OpenPassed → open_reply M k m ab t os ≡ Ok tt
   passed-opens proper p =
       let kinds : Kinds = (sounds.kinds M proper ab t).0 ((sounds.words M ab t).0 (p.sound proper)) in
       let limits : Limits = ((((tt, p.size), p.crew), p.kind), p.odd) in
@@ -166,7 +164,7 @@ module _ (M : Model) (k m : ℕ) (ab : Hash) (t : List ℕ) (os : List Order) wh
       let (_, (_, (_, (_, (four, (seventeen, (eighteen, _))))))) = other-decides ne in
       (λ e. not_damaged (four.0 e).1, λ e. g (seventeen.0 e).1, λ e. d (eighteen.0 e).1))
 
-  open-refused {ℓ} : {C : Type ℓ} → open-answer ≢ 0 → ((q : Refusal) → open_reply M k m ab t os ≡ Refused q → C) → C
+  open-refused {ℓ} : {C : Type ℓ} → open-answer ≢ 0 → ((q : Refusal) → open_reply M k m ab t os ≡ Err q → C) → C
   open-refused z f = by-reply (open_reply M k m ab t os) (λ e. absurd (z (open-number ∙ ap reply_number e))) f
 
 -- outside insert phases the list is not read
@@ -217,7 +215,7 @@ module _ (M : Model) (p : Phase) (os : List Order) (i w v : ℕ) where
   is-reply = order-number M p lacks at.worker at.key at.price
 
   line-decides : p.kind ≡ 1 → Decides order-answer (line_order_cases M p os i)
-  line-decides is = decides (line_order_steps M p os i) refl order-answer (is-reply ∙ rw (eq-eqb p.kind 1 is))
+  line-decides is = decides (line_order_steps M p os i) refl order-answer (is-reply ∙ rw (eq-eqb p.kind 1 is, line-order os i, line-lacks os i))
 
   handed-decides : p.kind ≢ 1 → Decides order-answer (handed_cases M p w v)
   handed-decides ne = decides (handed_steps M p w v) refl order-answer (is-reply ∙ rw (ne_eqb p.kind 1 ne))
@@ -238,15 +236,16 @@ module _ (M : Model) (p : Phase) (os : List Order) (i w v : ℕ) where
       let (_, (_, (_, (_, (_, (_, (_, (_, none)))))))) = line-decides is in
       let ((((((((_, formed), running), there), below), free), key), shop), price) = none.0 z in
       let e = eq-eqb p.kind 1 is in
+      let o = line-order os i in
       record {
         formed = formed;
         running = running;
         there = λ _. there;
-        below = rw e below;
-        free = rw e free;
-        key = rw e key;
-        shop = λ _. rw e shop;
-        price = λ _. rw e price;
+        below = rw (e, o) below;
+        free = rw (e, o) free;
+        key = rw (e, o) key;
+        shop = λ _. rw (e, o) shop;
+        price = λ _. rw (e, o) price;
       }
 
   handed-passed : p.kind ≢ 1 → order-answer ≡ 0 → Passed
@@ -265,11 +264,11 @@ module _ (M : Model) (p : Phase) (os : List Order) (i w v : ℕ) where
         price = λ is. absurd (ne is);
       }
 
-  pub order-passed : found_reply M p (line_at os i) w v ≡ Accepted → Passed
+  pub order-passed : found_reply M p (line_at os i) w v ≡ Ok tt → Passed
   order-passed e =
       let z : order-answer ≡ 0 = is-reply ∙ ap reply_number e in by-eq p.kind 1 (λ is. line-passed is z) (λ ne. handed-passed ne z)
 
-  order-accepted : order-answer ≡ 0 → reply ≡ Accepted
+  order-accepted : order-answer ≡ 0 → reply ≡ Ok tt
   order-accepted z = none-accepted reply (sym is-reply ∙ z)
 
   -- the worker starts with what was asked for
@@ -303,7 +302,7 @@ orders M p os i w v =
       others = handed-decides M p os i w v;
       never_full = λ e. let o = at M p os i w v in order-numbers M p (lacks M p os i w v) o.worker o.key o.price (sym is ∙ e);
       refused = λ z. by-reply (reply M p os i w v) (λ e. absurd (z (is ∙ ap reply_number e))) (λ _ e. rw e);
-      insert_accepted = λ one. order-starts M p os i w v (get_or os i blank) (rw (eq-eqb p.kind 1 one)) (rw (eq-eqb p.kind 1 one));
+      insert_accepted = λ one. order-starts M p os i w v (get_or os i blank) (rw (eq-eqb p.kind 1 one, line-order os i)) (rw (eq-eqb p.kind 1 one));
       other_accepted = λ ne. order-starts M p os i w v (order_with v 0 w) (rw (ne_eqb p.kind 1 ne)) (rw (ne_eqb p.kind 1 ne));
       insert_unread = λ one x y. rw (eq-eqb p.kind 1 one);
       other_unread = λ ne other j. rw (ne_eqb p.kind 1 ne);
@@ -315,26 +314,26 @@ module _ (M : Model) (p : Phase) (t : List ℕ) (w : ℕ) where
   turn-decides = decides (turn_steps M p t w) refl (turn_number (turn_call M p t w).reply) (turn-number M p t w)
 
   -- what a turn that is not refused has passed
-  pub turn-passed : turn_check M p t w ≡ Accepted → WellFormed M p × (p.shut ≡ false) × (p.length ≡ length t) × (w < p.crew)
+  pub turn-passed : turn_check M p t w ≡ Ok tt → WellFormed M p × (p.shut ≡ false) × (p.length ≡ length t) × (w < p.crew)
   turn-passed e =
       let (_, (_, (_, (_, none)))) = turn-decides in
       let ((((_, f), running), cells), worker) = none.0 (turn-number M p t w ∙ ap reply_number e) in (f, running, cells, worker)
 
-  pub turn-accepted : turn_number (turn_call M p t w).reply ≡ 0 → turn_check M p t w ≡ Accepted
+  pub turn-accepted : turn_number (turn_call M p t w).reply ≡ 0 → turn_check M p t w ≡ Ok tt
   turn-accepted z = none-accepted (turn_check M p t w) (sym (turn-number M p t w) ∙ z)
 
   -- the cell that it touches is in the table
-  pub inside : (c : ℕ) → turn_check M p t w ≡ Accepted → touched (doing p w) ≡ At c → c < length t
+  pub inside : (c : ℕ) → turn_check M p t w ≡ Ok tt → touched (doing p w) ≡ Some c → c < length t
   inside c e is =
       let (formed, _, cells, below) = turn-passed e in
       omega (arith, touched-below p.length (doing p w) c (cells-below p.kind p.length label (doing p w) (formed.workers w below)) is)
 
   -- a turn with an answer was accepted, and moved its worker
-  turn-answered {ℓ} : {C : Type ℓ} (r : Answer) → (turn_call M p t w).reply ≡ Answered r
-      → (turn_check M p t w ≡ Accepted → (moved_at M p t w (touched (doing p w))).reply ≡ Answered r → C) → C
+  turn-answered {ℓ} : {C : Type ℓ} (r : Answer) → (turn_call M p t w).reply ≡ Ok r
+      → (turn_check M p t w ≡ Ok tt → (moved_at M p t w (touched (doing p w))).reply ≡ Ok r → C) → C
   turn-answered r e f = by-reply (turn_check M p t w) (λ ok. f ok (rw ok at e)) (λ q no. absurd (let z : ◌≡◌ {A = ℕ} 0 1 = cc in omega arith))
 
-  answer-told : (r : Answer) → (turn_call M p t w).reply ≡ Answered r → Answers p.kind (doing p w) (doing (turn_call M p t w).phase w) r
+  answer-told : (r : Answer) → (turn_call M p t w).reply ≡ Ok r → Answers p.kind (doing p w) (doing (turn_call M p t w).phase w) r
   answer-told r e = turn-answered r e (λ ok f.
       let (formed, _, _, below) = turn-passed ok in
       rw ok (moved-answers M p t w formed.kind (formed.workers w below) (touched (doing p w)) refl r f))
@@ -395,7 +394,7 @@ closes M p =
     }
 
 -- what an accepted close has passed
-pub close_passed : (M : Model) (p : Phase) → close_reply M p ≡ Accepted → WellFormed M p × (p.shut ≡ false) × ((w : ℕ) → doing p w ≡ Idle)
+pub close_passed : (M : Model) (p : Phase) → close_reply M p ≡ Ok tt → WellFormed M p × (p.shut ≡ false) × ((w : ℕ) → doing p w ≡ Idle)
 close_passed M p e =
     let (_, (_, (_, none))) = (closes M p).answers in
     let (((_, f), running), rest) = none.0 (close-number M p ∙ ap reply_number e) in (f, running, rest)

@@ -1,4 +1,5 @@
 -- Which turns change a cell: those that replace, where the cell holds what was read before.
+use Rattle.std.specs.Prelude.{Option, ℕ, Some, None}
 use mathlib.Core.Path.{◌≡◌, refl, sym, ap, ◌∙◌}
 use mathlib.Core.Logic.{◌≢◌, inl, inr}
 use mathlib.Core.List.{List}
@@ -11,8 +12,6 @@ use Rattle.activities.specs.declared.Activity.{Activity}
 use Rattle.activities.specs.declared.Activity.TheVariants.{Replacing}
 use Rattle.rule.specs.Rule.{touched, rule}
 use Rattle.rule.specs.declared.Outcome.{Outcome}
-use Rattle.rule.specs.declared.Place.{Place}
-use Rattle.rule.specs.declared.Place.TheVariants.{Nowhere, At}
 use Rattle.rule.proofs.Writing.{Writes, kept, inserted, deleted, emptied, rule-writes, insert-replaces, delete-replaces, delete-empties}
 use Rattle.state.specs.Model.{Model}
 use Rattle.state.specs.declared.Phase.{Phase}
@@ -21,7 +20,7 @@ use Rattle.protocol.specs.Calls.{cells_at}
 use Rattle.protocol.specs.Promise.{Replaces}
 
 -- a step that changes the touched cell
-written : (k d : ℕ) (a : Activity) (before after : ℕ) (o : Outcome) → Writes k label a before o → touched a ≡ At d → after ≡ o.content → after ≢ before
+written : (k d : ℕ) (a : Activity) (before after : ℕ) (o : Outcome) → Writes k label a before o → touched a ≡ Some d → after ≡ o.content → after ≢ before
     → Replaces k a d before after
 written k d a before after o (kept e) is made ne = absurd (ne (made ∙ e))
 written k d a before after o (inserted v i j x e kind held r) is made ne = let z : i ≡ d = cc in rw e (z, inl (kind, held, made ∙ r))
@@ -42,7 +41,7 @@ module _ (M : Model) (p : Phase) (t : List ℕ) (w : ℕ) where
   -- ---- a replace turn that finds what it read before writes
   module _ (v i j x : ℕ) (is : doing p w ≡ Replacing v i j x) (inside : i < length t) where
     at_place : get_or (cells_at M p t w (touched (doing p w))) i 0 ≡ (made i).content
-    at_place = ap (λ (q : Place). get_or (cells_at M p t w q) i 0) (ap touched is) ∙ get_or-set_same t i (made i).content 0 inside
+    at_place = ap (λ (q : Option ℕ). get_or (cells_at M p t w q) i 0) (ap touched is) ∙ get_or-set_same t i (made i).content 0 inside
 
     pub cells-inserted : p.kind ≡ 1 → get_or t i 0 ≡ x → get_or (cells_at M p t w (touched (doing p w))) i 0 ≡ v
     cells-inserted kind held = at_place ∙ rw is (insert-replaces p.kind p.length label (M.home p.hash p.length) v i j x (get_or t i 0) kind held)
@@ -56,11 +55,11 @@ module _ (M : Model) (p : Phase) (t : List ℕ) (w : ℕ) where
         at_place ∙ rw is (delete-empties p.kind p.length label (M.home p.hash p.length) v i j x (get_or t i 0) kind held none)
 
   -- ---- and no other turn changes a cell
-  pub cells-written : (q : Place) → touched (doing p w) ≡ q → (c : ℕ) → get_or (cells_at M p t w q) c 0 ≢ get_or t c 0
+  pub cells-written : (q : Option ℕ) → touched (doing p w) ≡ q → (c : ℕ) → get_or (cells_at M p t w q) c 0 ≢ get_or t c 0
       → Replaces p.kind (doing p w) c (get_or t c 0) (get_or (cells_at M p t w q) c 0)
-  cells-written Nowhere is c ne = absurd (ne refl)
-  cells-written (At d) is c ne =
+  cells-written None is c ne = absurd (ne refl)
+  cells-written (Some d) is c ne =
       let (z, e) = place-changed t d (made d).content c ne in
       let rules = rule-writes p.kind p.length label (M.home p.hash p.length) (doing p w) (get_or t c 0) in
-      written p.kind c (doing p w) (get_or t c 0) (get_or (cells_at M p t w (At d)) c 0) (made c) rules (is ∙ ap At (sym z))
+      written p.kind c (doing p w) (get_or t c 0) (get_or (cells_at M p t w (Some d)) c 0) (made c) rules (is ∙ ap Some (sym z))
       (e ∙ ap (λ (b : ℕ). (made b).content) (sym z)) ne

@@ -1,29 +1,24 @@
 -- The calls on a phase: order, turn and close.
-use Rattle.std.specs.Prelude.{Bool, true, false, not, cond, List, ℕ, eqb, get_or, set}
+use Rattle.std.specs.Prelude.{Bool, true, false, cond, List, ℕ, eqb, get_or, set, Option, Some, None, Ok, Err, is_none, unwrap_or}
 use Rattle.prices.specs.Contents.{label, content}
-use Rattle.orders.specs.Orders.{order_with, line_at}
-use Rattle.orders.specs.declared.Found.{Found}
+use Rattle.orders.specs.Orders.{blank, order_with, line_at}
 use Rattle.orders.specs.declared.Order.{Order}
 use Rattle.activities.specs.declared.Activity.{Activity}
 use Rattle.rule.specs.declared.Answer.TheVariants as answer
-use Rattle.rule.specs.declared.Place.{Place}
-use Rattle.rule.specs.declared.Place.TheVariants.{Nowhere, At}
 use Rattle.rule.specs.Rule.{touched, rule, start}
 use Rattle.state.specs.Model.{Model}
 use Rattle.state.specs.Refusals.{number_of, first_of}
 use Rattle.state.specs.declared.Phase.{Phase}
 use Rattle.state.specs.declared.Replied.{Replied}
-use Rattle.state.specs.declared.Reply.{Reply}
-use Rattle.state.specs.declared.Reply.TheVariants.{Accepted, Refused}
+use Rattle.state.specs.Replies.{Reply}
 use Rattle.protocol.specs.Bars.{doing, order_bars, turn_bars, close_bars}
-use Rattle.protocol.specs.declared.TurnReply.{TurnReply}
-use Rattle.protocol.specs.declared.TurnReply.TheVariants as turnReply
+use Rattle.protocol.specs.Replies.{TurnReply}
 use Rattle.protocol.specs.declared.Turned.{Turned}
 
 -- the documents' number of a turn's answer, 0 where the turn is not refused
 abbrev pub turn_number : TurnReply → ℕ
-turn_number (turnReply.Answered a) = 0
-turn_number (turnReply.Refused r) = number_of r
+turn_number (Ok a) = 0
+turn_number (Err r) = number_of r
 
 -- the phase with another activity of worker w, and shut
 abbrev pub with_worker : Phase → ℕ → Activity → Phase
@@ -41,12 +36,12 @@ shut_phase p = record { kind = p.kind; length = p.length; crew = p.crew; shut = 
 
 -- ---- what an order call in a phase of kind k asks for: an insert phase (put-in shift) reads the line that was found in the list lent, the others the
 -- worker w and the key v that are handed in
-abbrev pub asked : ℕ → Found → (w v : ℕ) → Order
-asked k l w v = cond (eqb k 1) l.order (order_with v 0 w)
+abbrev pub asked : ℕ → Option Order → (w v : ℕ) → Order
+asked k l w v = cond (eqb k 1) (unwrap_or l blank) (order_with v 0 w)
 
 -- an insert phase, and the list lacks the line
-abbrev pub missing : ℕ → Found → Bool
-missing k l = cond (eqb k 1) (not l.there) false
+abbrev pub missing : ℕ → Option Order → Bool
+missing k l = cond (eqb k 1) (is_none l) false
 
 -- what an order of key v at a price is for, in a phase of kind k: an insert takes the price along, the others go by the key alone
 abbrev pub entry_for : (k v cents : ℕ) → ℕ
@@ -58,8 +53,8 @@ module _ (M : Model) (p : Phase) where
   close_reply = first_of (close_bars M p)
 
   abbrev pub closed : Reply → Replied
-  closed Accepted = record { phase = shut_phase p; reply = Accepted }
-  closed (Refused r) = record { phase = p; reply = Refused r }
+  closed (Ok _) = record { phase = shut_phase p; reply = Ok tt }
+  closed (Err r) = record { phase = p; reply = Err r }
 
   abbrev pub close_call : Replied
   close_call = closed close_reply
@@ -75,17 +70,17 @@ module _ (M : Model) (p : Phase) where
     ordered_phase = with_worker p w (start label (M.home p.hash p.length) (entry_for p.kind v cents))
 
     abbrev pub ordered : Reply → Replied
-    ordered Accepted = record { phase = ordered_phase; reply = Accepted }
-    ordered (Refused r) = record { phase = p; reply = Refused r }
+    ordered (Ok _) = record { phase = ordered_phase; reply = Ok tt }
+    ordered (Err r) = record { phase = p; reply = Err r }
 
     abbrev pub order_to : Replied
     order_to = ordered order_reply
 
   -- of what a line that was found, or a worker and a key handed in, ask for
-  abbrev pub found_reply : Found → (w v : ℕ) → Reply
+  abbrev pub found_reply : Option Order → (w v : ℕ) → Reply
   found_reply l w v = let o = asked p.kind l w v in order_reply (missing p.kind l) o.worker o.key o.price
 
-  abbrev pub order_found : Found → (w v : ℕ) → Replied
+  abbrev pub order_found : Option Order → (w v : ℕ) → Replied
   order_found l w v = let o = asked p.kind l w v in order_to (missing p.kind l) o.worker o.key o.price
 
   -- the call: line i of the list lent, or worker w and key v
@@ -98,23 +93,23 @@ module _ (M : Model) (p : Phase) where
     turn_check = first_of (turn_bars M p t w)
 
     -- at the place that the worker's activity touches, by the rule; an idle worker's turn changes nothing
-    abbrev pub moved_at : Place → Turned
-    moved_at Nowhere = record { phase = p; reply = turnReply.Answered answer.Idle }
-    moved_at (At c) =
+    abbrev pub moved_at : Option ℕ → Turned
+    moved_at None = record { phase = p; reply = Ok answer.Idle }
+    moved_at (Some c) =
         let o = rule p.kind p.length label (M.home p.hash p.length) (doing p w) (get_or t c 0) in
-        record { phase = with_worker p w o.activity; reply = turnReply.Answered o.answer }
+        record { phase = with_worker p w o.activity; reply = Ok o.answer }
 
-    abbrev pub cells_at : Place → List ℕ
-    cells_at Nowhere = t
-    cells_at (At c) = set t c (rule p.kind p.length label (M.home p.hash p.length) (doing p w) (get_or t c 0)).content
+    abbrev pub cells_at : Option ℕ → List ℕ
+    cells_at None = t
+    cells_at (Some c) = set t c (rule p.kind p.length label (M.home p.hash p.length) (doing p w) (get_or t c 0)).content
 
     abbrev pub turned : Reply → Turned
-    turned Accepted = moved_at (touched (doing p w))
-    turned (Refused r) = record { phase = p; reply = turnReply.Refused r }
+    turned (Ok _) = moved_at (touched (doing p w))
+    turned (Err r) = record { phase = p; reply = Err r }
 
     abbrev pub turned_cells : Reply → List ℕ
-    turned_cells Accepted = cells_at (touched (doing p w))
-    turned_cells (Refused r) = t
+    turned_cells (Ok _) = cells_at (touched (doing p w))
+    turned_cells (Err r) = t
 
     -- the phase and the answer, and the table afterwards
     abbrev pub turn_call : Turned

@@ -4,5 +4,6 @@ pub mod Cases
 pub mod IsWellFormed
 pub mod Lines
 pub mod Promise
+pub mod Replies
 pub mod Split
 pub mod WellFormed

@@ -1,6 +1,6 @@
 -- Demand 1 for the calls on a phase: each refusal is given in its cases and in no other, the first to apply wins, and a refusal changes nothing. And
 -- what a call that is not refused answers, changes and leaves, field by field.
-use Rattle.std.specs.Prelude.{◌≡◌, ◌≢◌, ◌↔◌, ◌⊎◌, Bool, true, false, List, [], ◌∷◌, ◌++◌, ℕ, ◌≤◌, ◌<◌, length, get_or}
+use Rattle.std.specs.Prelude.{◌≡◌, ◌≢◌, ◌↔◌, ◌⊎◌, Bool, true, false, List, [], ◌∷◌, ◌++◌, ℕ, ◌≤◌, ◌<◌, length, get_or, Some, Ok}
 use Rattle.ring.specs.Ring.{next, prev}
 use Rattle.layout.specs.Sound.{OnPath, Ordered}
 use Rattle.homes.specs.Homes.{plain}
@@ -18,7 +18,6 @@ use Rattle.rule.specs.Rule.{touched}
 use Rattle.rule.specs.declared.Answer.{Answer}
 use Rattle.rule.specs.declared.Answer.TheVariants.{WentOn, Finished, Price, No}
 use Rattle.rule.specs.declared.Answer.TheVariants as answer
-use Rattle.rule.specs.declared.Place.TheVariants.{At}
 use Rattle.state.specs.Model.{Model, Proper, model_of}
 use Rattle.state.specs.Open.{open_reply, open_call}
 use Rattle.state.specs.Refusals.{reply_number}
@@ -30,7 +29,6 @@ use Rattle.protocol.specs.Cases.{Case, case, wants, forbids, Decides}
 use Rattle.protocol.specs.IsWellFormed.{is_well_formed}
 use Rattle.protocol.specs.Lines.{Priced, Mispriced, ShopKey, TestKey, Good, line_cases, Fills}
 use Rattle.protocol.specs.WellFormed.{Size, Crew, Kind, WellFormed}
-use Rattle.protocol.specs.declared.TurnReply.TheVariants.{Answered}
 
 -- ---- the test is the sentence
 abbrev pub WellFormedPromise : Type 0
@@ -253,13 +251,13 @@ pub record Turns (M : Model) (p : Phase) (t : List ℕ) (w : ℕ) : Type 0 where
   pub refused : turn_number (turn_call M p t w).reply ≢ 0 → ((turn_call M p t w).phase ≡ p) × (turn_table M p t w ≡ t)
   -- an idle worker's turn changes nothing; if it isn't refused it answers idle
   pub idle : doing p w ≡ Idle → ((turn_call M p t w).phase ≡ p) × (turn_table M p t w ≡ t)
-  pub idle_answer : doing p w ≡ Idle → turn_number (turn_call M p t w).reply ≡ 0 → (turn_call M p t w).reply ≡ Answered answer.Idle
+  pub idle_answer : doing p w ≡ Idle → turn_number (turn_call M p t w).reply ≡ 0 → (turn_call M p t w).reply ≡ Ok answer.Idle
   -- a turn answers as its worker's record before and after it says
-  pub answered : (r : Answer) → (turn_call M p t w).reply ≡ Answered r → Answers p.kind (doing p w) (doing (turn_call M p t w).phase w) r
+  pub answered : (r : Answer) → (turn_call M p t w).reply ≡ Ok r → Answers p.kind (doing p w) (doing (turn_call M p t w).phase w) r
   -- the cell's price if the cell holds the worker's key, else no
-  pub says_price : (q : ℕ) → (turn_call M p t w).reply ≡ Answered (Price q) → (c : ℕ) → touched (doing p w) ≡ At c
+  pub says_price : (q : ℕ) → (turn_call M p t w).reply ≡ Ok (Price q) → (c : ℕ) → touched (doing p w) ≡ Some c
       → (label (get_or t c 0) ≡ label (entry_of (doing p w))) × (price (get_or t c 0) ≡ q)
-  pub says_no : (turn_call M p t w).reply ≡ Answered No → (c : ℕ) → touched (doing p w) ≡ At c → label (get_or t c 0) ≢ label (entry_of (doing p w))
+  pub says_no : (turn_call M p t w).reply ≡ Ok No → (c : ℕ) → touched (doing p w) ≡ Some c → label (get_or t c 0) ≢ label (entry_of (doing p w))
   -- a turn reads one cell, or compares one cell with a content read earlier and writes if they are equal: no other turn changes a cell
   pub writes : (c : ℕ) → get_or (turn_table M p t w) c 0 ≢ get_or t c 0 → Replaces p.kind (doing p w) c (get_or t c 0) (get_or (turn_table M p t w) c 0)
   -- and a replace turn that finds that content writes
@@ -271,12 +269,12 @@ pub record Turns (M : Model) (p : Phase) (t : List ℕ) (w : ℕ) : Type 0 where
       → label x ≡ 0 → get_or (turn_table M p t w) i 0 ≡ 0
   -- an insert that reads its own key: what stands at no higher price finishes it, an entry at a higher price is to be replaced
   pub stands : turn_number (turn_call M p t w).reply ≡ 0 → p.kind ≡ 1 → (v i : ℕ) → doing p w ≡ Reading v i → label (get_or t i 0) ≡ label v
-      → price (get_or t i 0) ≤ price v → (turn_call M p t w).reply ≡ Answered Finished
+      → price (get_or t i 0) ≤ price v → (turn_call M p t w).reply ≡ Ok Finished
   pub undercuts : turn_number (turn_call M p t w).reply ≡ 0 → p.kind ≡ 1 → (v i : ℕ) → doing p w ≡ Reading v i → label (get_or t i 0) ≡ label v
       → price v < price (get_or t i 0) → doing (turn_call M p t w).phase w ≡ Replacing v i i (get_or t i 0)
   -- and once it has replaced that, or a content without a key, it is finished; any other key it carries on from the next cell
   pub ends : turn_number (turn_call M p t w).reply ≡ 0 → p.kind ≡ 1 → (v i j x : ℕ) → doing p w ≡ Replacing v i j x → get_or t i 0 ≡ x
-      → ((label x ≡ label v) × (price v < price x)) ⊎ (label x ≡ 0) → (turn_call M p t w).reply ≡ Answered Finished
+      → ((label x ≡ label v) × (price v < price x)) ⊎ (label x ≡ 0) → (turn_call M p t w).reply ≡ Ok Finished
   pub carries : turn_number (turn_call M p t w).reply ≡ 0 → p.kind ≡ 1 → (v i j x : ℕ) → doing p w ≡ Replacing v i j x → get_or t i 0 ≡ x
       → label x ≢ 0 → (label x ≡ label v → price x ≤ price v) → doing (turn_call M p t w).phase w ≡ Reading x (next p.length i)
   -- refused or not, a turn leaves all of the phase state but its own worker
@@ -301,7 +299,7 @@ Taken n q v i j x a = ((prev n q ≡ i) × (a ≡ Replacing v i j x)) ⊎ ((prev
 pub record Homing (M : Model) (p : Phase) (t : List ℕ) (w : ℕ) : Type 0 where
   -- on its way back, at a cell that does not hold its key: it finishes at the key's home, and nowhere else
   pub ends : (v i : ℕ) → doing p w ≡ WalkingBack v i → label (get_or t i 0) ≢ label v → i ≡ home_in M p (label v)
-      → (turn_call M p t w).reply ≡ Answered Finished
+      → (turn_call M p t w).reply ≡ Ok Finished
   pub walks : (v i : ℕ) → doing p w ≡ WalkingBack v i → label (get_or t i 0) ≢ label v → i ≢ home_in M p (label v)
       → doing (turn_call M p t w).phase w ≡ WalkingBack v (prev p.length i)
   -- seeking a replacement for cell i: the first cell that serves is taken, and any other is gone past

@@ -1,5 +1,5 @@
 -- An order and a turn of one worker apart from its phase, for code that deals many calls.
-use Rattle.std.specs.Prelude.{◌≡◌, false, List, ℕ, ◌<◌, length, get_or, set}
+use Rattle.std.specs.Prelude.{◌≡◌, false, List, ℕ, ◌<◌, length, get_or, set, Option, Some, None, Ok, Err}
 use Rattle.homes.specs.declared.Hash.{Hash}
 use Rattle.prices.specs.Contents.{label}
 use Rattle.orders.specs.Orders.{line_at}
@@ -7,31 +7,27 @@ use Rattle.orders.specs.declared.Order.{Order}
 use Rattle.activities.specs.Activities.{idle}
 use Rattle.activities.specs.declared.Worker.{Worker}
 use Rattle.rule.specs.declared.Answer.TheVariants as answer
-use Rattle.rule.specs.declared.Place.{Place}
-use Rattle.rule.specs.declared.Place.TheVariants.{Nowhere, At}
 use Rattle.rule.specs.Rule.{touched, rule, start}
 use Rattle.state.specs.Model.{Model}
 use Rattle.state.specs.Refusals.{first_of}
 use Rattle.state.specs.declared.Phase.{Phase}
-use Rattle.state.specs.declared.Reply.{Reply}
-use Rattle.state.specs.declared.Reply.TheVariants.{Accepted, Refused}
+use Rattle.state.specs.Replies.{Reply}
 use Rattle.protocol.specs.Bars.{worker_bars}
 use Rattle.protocol.specs.Calls.{asked, missing, entry_for, with_worker, order_call, turn_call, turn_table}
 use Rattle.protocol.specs.WellFormed.{WellFormed}
 use Rattle.protocol.specs.declared.Given.{Given}
 use Rattle.protocol.specs.declared.Moved.{Moved}
-use Rattle.protocol.specs.declared.TurnReply.TheVariants as turnReply
 
 module _ (M : Model) (k : ℕ) (ab : Hash) (n : ℕ) (t : List ℕ) (w : Worker) where
-  abbrev pub one_at : Place → Moved
-  one_at Nowhere = record { worker = w; reply = turnReply.Answered answer.Idle }
-  one_at (At c) =
+  abbrev pub one_at : Option ℕ → Moved
+  one_at None = record { worker = w; reply = Ok answer.Idle }
+  one_at (Some c) =
       let o = rule k n label (M.home ab n) w.activity (get_or t c 0) in
-      record { worker = record { activity = o.activity }; reply = turnReply.Answered o.answer }
+      record { worker = record { activity = o.activity }; reply = Ok o.answer }
 
-  abbrev pub one_cells_at : Place → List ℕ
-  one_cells_at Nowhere = t
-  one_cells_at (At c) = set t c (rule k n label (M.home ab n) w.activity (get_or t c 0)).content
+  abbrev pub one_cells_at : Option ℕ → List ℕ
+  one_cells_at None = t
+  one_cells_at (Some c) = set t c (rule k n label (M.home ab n) w.activity (get_or t c 0)).content
 
   -- the worker and the answer, and the table afterwards
   abbrev pub one_turn : Moved
@@ -46,8 +42,8 @@ module _ (M : Model) (k : ℕ) (ab : Hash) (n : ℕ) (w : Worker) (v cents : ℕ
   one_reply = first_of (worker_bars k w.activity v cents)
 
   abbrev pub one_given : Reply → Given
-  one_given Accepted = record { worker = record { activity = start label (M.home ab n) (entry_for k v cents) }; reply = Accepted }
-  one_given (Refused r) = record { worker = w; reply = Refused r }
+  one_given (Ok _) = record { worker = record { activity = start label (M.home ab n) (entry_for k v cents) }; reply = Ok tt }
+  one_given (Err r) = record { worker = w; reply = Err r }
 
   -- the worker and the answer after an order
   abbrev pub one_order : Given

@@ -3,31 +3,25 @@
 
 use activities::Worker;
 use rule::Answer;
-use state::{Phase, Refusal, Reply};
+use state::{Phase, Refusal};
 
-// The answer of a turn.
-#[derive(Clone, Copy)]
-pub enum TurnReply {
-    Answered(Answer),
-    Refused(Refusal),
-}
-
+// A phase after a turn, and what the turn answers.
 #[derive(Clone, Copy)]
 pub struct Turned {
     pub phase: Phase,
-    pub reply: TurnReply,
+    pub reply: Result<Answer, Refusal>,
 }
 
 // The same of one worker alone.
 #[derive(Clone, Copy)]
 pub struct Moved {
     pub worker: Worker,
-    pub reply: TurnReply,
+    pub reply: Result<Answer, Refusal>,
 }
 
 // A worker after an order, and the answer.
 #[derive(Clone, Copy)]
 pub struct Given {
     pub worker: Worker,
-    pub reply: Reply,
+    pub reply: Result<(), Refusal>,
 }

@@ -6,6 +6,7 @@ use Prim.Native.Nat.{ℕ, ◌+◌, ◌≤◌}
 use native.Mathlib.Omega.{arith}
 use lib.ListN.{length, take, drop, take-append-drop}
 use lib.Seq.{take_all}
+use Rattle.orders.specs.declared.Order.{Order}
 use Rattle.feed.specs.Feed.{Kept, fed}
 use Rattle.feed.proofs.Parts.{fed-append, ended-fed}
 use Rattle.blocks.specs.declared.Carried.{Carried}
@@ -14,12 +15,12 @@ use Rattle.blocks.specs.Kept.{kept_of, Fills}
 use Rattle.blocks.proofs.Filling.{rest, rest-is, Behind, rest-long, fed-on}
 use Rattle.replay.specs.Read.{Passes}
 
-module _ {k₀ : Kept} {block line cells items : List ℕ} {c : Carried} {from : ℕ} (b : Behind k₀ block line cells items c from) where
+module _ {k₀ : Kept} {block line cells : List ℕ} {items : List Order} {c : Carried} {from : ℕ} (b : Behind k₀ block line cells items c from) where
   abbrev k : Kept
   k = kept_of c line cells items
 
   -- ---- a buffer more
-  module _ {line' cells' items' out' : List ℕ} {r : Filled} (f : Fills k (rest block from) line' cells' items' out' r) where
+  module _ {line' cells' : List ℕ} {items' : List Order} {out' : List ℕ} {r : Filled} (f : Fills k (rest block from) line' cells' items' out' r) where
     kept_on : kept_of r.carried line' cells' items' ≡ fed k₀ (take (from + r.next) block)
     kept_on = f.kept ∙ ap (λ (p : List ℕ). fed k (take r.next p)) (rest-is block from) ∙ fed-on b r.next
 
@@ -42,11 +43,11 @@ module _ {k₀ : Kept} {block line cells items : List ℕ} {c : Carried} {from :
         }
 
     -- the replay ends in it
-    pub passes-ended : r.carried.ended ≡ true → Passes k₀ block line' cells' items' (record { carried = r.carried; written = true })
+    pub passes-ended : r.carried.ended ≡ true → Passes k₀ block line' cells' items' r.carried
     passes-ended over =
         let n = from + r.next in
         record {
-          kept = λ _. sym (ended-fed (kept_of r.carried line' cells' items') over (drop n block))
+          kept = sym (ended-fed (kept_of r.carried line' cells' items') over (drop n block))
               ∙ ap (λ (x : Kept). fed x (drop n block)) kept_on
               ∙ sym (fed-append k₀ (take n block) (drop n block))
               ∙ ap (fed k₀) (take-append-drop n block);
@@ -54,10 +55,6 @@ module _ {k₀ : Kept} {block line cells items : List ℕ} {c : Carried} {from :
           few = few_on;
         }
 
-    -- what it prints could not be written
-    pub passes-failed : Passes k₀ block line' cells' items' (record { carried = r.carried; written = false })
-    passes-failed = record { kept = λ e. absurd (let z : ◌≡◌ {A = ℕ} 0 1 = cc in omega arith); held = f.held; few = few_on }
-
   -- the whole block is done
-  pub passes : length block ≤ from → Passes k₀ block line cells items (record { carried = c; written = true })
-  passes l = record { kept = λ _. b.kept ∙ ap (fed k₀) (take_all from block l); held = b.held; few = omega (arith, b.few, b.within) }
+  pub passes : length block ≤ from → Passes k₀ block line cells items c
+  passes l = record { kept = b.kept ∙ ap (fed k₀) (take_all from block l); held = b.held; few = omega (arith, b.few, b.within) }

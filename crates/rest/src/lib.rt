@@ -6,43 +6,34 @@ ghost use Rattle.state.specs.Model.{model_of};
 ghost use Rattle.tables.specs.Calls.{check_call, count_call, list_call, list_after, list_front};
 
 use homes::Hash;
-use state::{Counted, Device, Phase, Refusal, Reply};
+use state::{Device, Phase, Refusal};
 
 // Whether a table may have its length and its hash function, and is sound or, if it is not, why.
-pub fn check(device: Device, hash: Hash, cells: &[u64]) -> Reply
+pub fn check(device: Device, hash: Hash, cells: &[u64]) -> Result<(), Refusal>
     ensures { result ≡ check_call (model_of device) hash cells.now }
 {
     Phase::check(device, hash, cells)
 }
 
 // How many keys the table has.
-pub fn count(device: Device, hash: Hash, cells: &[u64]) -> Counted
+pub fn count(device: Device, hash: Hash, cells: &[u64]) -> Result<usize, Refusal>
     ensures { result ≡ count_call (model_of device) hash cells.now }
 {
-    let checked = check(device, hash, cells);
-    match checked {
-        Reply::Accepted => Counted::Count(listing::count_keys(cells)),
-        Reply::Refused(why) => Counted::Refused(why),
-    }
+    check(device, hash, cells)?;
+    Ok(listing::count_keys(cells))
 }
 
 // Lists the entries, each key with its price, in cell order at the front of `out`.
-pub fn list(device: Device, hash: Hash, cells: &[u64], out: &mut [u64]) -> Counted
+pub fn list(device: Device, hash: Hash, cells: &[u64], out: &mut [u64]) -> Result<usize, Refusal>
     ensures { (result ≡ list_call (model_of device) hash cells.now out.old)
         × (out.new ≡ list_after (model_of device) hash cells.now out.old) }
 {
-    let counted = count(device, hash, cells);
-    match counted {
-        Counted::Refused(why) => Counted::Refused(why),
-        Counted::Count(count) => {
-            if out.len() < count {
-                Counted::Refused(Refusal::ShortList)
-            } else {
-                listing::list_entries(cells, out);
-                Counted::Count(count)
-            }
-        }
+    let count = count(device, hash, cells)?;
+    if out.len() < count {
+        return Err(Refusal::ShortList);
     }
+    listing::list_entries(cells, out);
+    Ok(count)
 }
 
 // The same, handing back the filled front part of `out`: it begins where `out` does.
@@ -56,8 +47,8 @@ pub fn list_front<'a>(
 {
     let listed = list(device, hash, cells, out);
     match listed {
-        Counted::Count(count) => &mut out[..count],
-        Counted::Refused(_) => &mut out[..0],
+        Ok(count) => &mut out[..count],
+        Err(_) => &mut out[..0],
     }
 }
 
@@ -65,9 +56,5 @@ pub fn list_front<'a>(
 pub fn clear(cells: &mut [u64])
     ensures { cells.new ≡ replicate (length cells.old) 0 }
 {
-    let mut i: usize = 0;
-    while i < cells.len() {
-        cells[i] = 0;
-        i += 1;
-    }
+    cells.fill(0);
 }

@@ -1,5 +1,5 @@
 -- The tests of bytes and the grammar's classes.
-use mathlib.Core.Path.{◌≡◌, refl, sym}
+use mathlib.Core.Path.{◌≡◌, refl}
 use mathlib.Core.Bool.{Bool, true, false}
 use Prim.Native.Nat.{ℕ}
 use native.Mathlib.Omega.{arith}
@@ -7,7 +7,7 @@ use borrow.Author.Tests.{le-leb, lt-leb, leb-true, eqb-true, ne_eqb}
 use lib.Dec.{leb, eqb}
 use Rattle.rfc4180.specs.Grammar.{TextData}
 use Rattle.rfc4180.specs.Reader.{is_text, is_inside}
-use Rattle.text.proofs.Test.{by-test, true-false}
+use Rattle.text.proofs.Test.{by-test}
 
 pub text-data : (b : ℕ) → is_text b ≡ true → TextData b
 unfolding is_text
@@ -17,7 +17,7 @@ text-data b e = by-test (leb b 0x21)
     (λ u. let f : leb 0x23 b ≡ true = rw (t, u) at e in TextData.middle (leb-true 0x23 b f) (leb-true b 0x2B u))
     (λ u. by-test (leb 0x2D b)
     (λ v. let f : leb b 0x7E ≡ true = rw (t, u, v) at e in TextData.high (leb-true 0x2D b v) (leb-true b 0x7E f))
-    (λ v. let f : ◌≡◌ {A = Bool} false true = rw (t, u, v) at e in true-false (sym f))))
+    (λ v. let f : ◌≡◌ {A = Bool} false true = rw (t, u, v) at e in cc)))
 
 pub is-text : {b : ℕ} → TextData b → is_text b ≡ true
 unfolding is_text

@@ -5,7 +5,7 @@ use Prim.Native.Nat.{ℕ, suc, ◌+◌, ◌<◌}
 use native.Mathlib.Omega.{arith}
 use lib.Dec.{eqb}
 use lib.ListN.{length, drop}
-use Rattle.text.proofs.Test.{by-test, impossible}
+use Rattle.text.proofs.Test.{by-test}
 use Rattle.rfc4180.specs.Grammar.{Record, Tail, File, RecordEnd, Begins, Pair, values, rows}
 use Rattle.rfc4180.specs.Reader.{Scan, field_of, Parsed, end_of, with_end, with_second, with_comma, with_first, record_of}
 use Rattle.rfc4180.specs.Promise.{Chain}
@@ -43,7 +43,7 @@ unfolding record_of field_of
 none-empty = refl
 
 different : {p : Pair} {n : ℕ} {C : Type 0} → Parsed.broken ≡ Parsed.parsed p n → C
-different e = impossible (cc)
+different e = cc
 
 -- no record of two fields begins an empty text
 pub begins-some : (s : List ℕ) {next : List ℕ} (p : Pair) → Begins s (values p) next → 0 < length s

@@ -5,7 +5,6 @@ use Prim.Native.Nat.{ℕ}
 use native.Mathlib.Omega.{arith}
 use lib.ListN.{length, take, drop}
 use lib.Seq.{take-append_seam, drop-append_seam}
-use Rattle.text.proofs.Test.{impossible}
 use Rattle.rfc4180.specs.Grammar.{TextData, NonEscaped, Escaped, Field, Record, RecordEnd, Begins}
 use Rattle.rfc4180.specs.Reader.{Scan, field_of}
 use Rattle.rfc4180.proofs.Complete.{Stop, stop-comma, stop-end, field-complete}
@@ -30,7 +29,7 @@ one_split s t a b s' t' a' b' x y x' y' e =
 -- ---- a record of any number of fields
 -- behind its last field stands its end, which is no comma
 no-comma : {e next t : List ℕ} → RecordEnd e next → e ≡ 0x2C ∷ t → ⊥
-no-comma RecordEnd.end e = impossible (cc)
+no-comma RecordEnd.end e = cc
 no-comma (RecordEnd.crlf {s}) e = let z : ◌≡◌ {A = ℕ} 0x0D 0x2C = cc in omega arith
 
 one-values : {r s e f t u : List ℕ} {vs ws : List (List ℕ)} → Record r vs → RecordEnd e t → Record s ws → RecordEnd f u → r ++ e ≡ s ++ f → (vs ≡ ws) × (e ≡ f)
@@ -51,8 +50,8 @@ one-values {e = e} {f = f} (Record.more {s} {t} {v} x k) y (Record.more {s = s'}
 
 one_end : {e f t u : List ℕ} → RecordEnd e t → RecordEnd f u → e ≡ f → t ≡ u
 one_end RecordEnd.end RecordEnd.end q = refl
-one_end RecordEnd.end RecordEnd.crlf q = impossible (cc)
-one_end RecordEnd.crlf RecordEnd.end q = impossible (cc)
+one_end RecordEnd.end RecordEnd.crlf q = cc
+one_end RecordEnd.crlf RecordEnd.end q = cc
 one_end RecordEnd.crlf RecordEnd.crlf q = ap (drop 2) q
 
 one-beginning : {s s' t u : List ℕ} {vs ws : List (List ℕ)} → Begins s vs t → Begins s' ws u → s ≡ s' → (vs ≡ ws) × (t ≡ u)

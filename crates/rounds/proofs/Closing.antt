@@ -1,4 +1,5 @@
 -- Closing a round: its refusals, the acknowledgements' answers, and the table and the list that it leaves.
+use Rattle.std.specs.Prelude.{Ok}
 use mathlib.Core.Path.{◌≡◌, refl, sym, ap, ◌∙◌, subst}
 use mathlib.Core.Logic.Iff
 use mathlib.Core.Logic.{◌≢◌, ◌↔◌, ◌⊎◌, inl, inr, ⊎_elim}
@@ -29,10 +30,8 @@ use Rattle.state.specs.Counts.{count_number, count_value, counted_by, if_counted
 use Rattle.state.specs.Model.{Model, Proper, crew_ok}
 use Rattle.state.specs.Open.{open_reply}
 use Rattle.state.specs.Refusals.{Bar, reply_number, first_of}
-use Rattle.state.specs.declared.Counted.{Counted}
-use Rattle.state.specs.declared.Counted.TheVariants.{Count}
+use Rattle.state.specs.Replies.{Counted}
 use Rattle.state.specs.declared.Refusal.TheVariants.{Crew, ShortList}
-use Rattle.state.specs.declared.Reply.TheVariants.{Accepted}
 use Rattle.state.proofs.Counts.{count-number, kept}
 use Rattle.protocol.specs.Cases.{Case, case, Decides}
 use Rattle.protocol.specs.Promise.{Soundness, GappedIn, DisorderedIn}
@@ -156,7 +155,7 @@ module _ (M : Model) (proper : Proper M) (m : ℕ) (ab : Hash) (t : List ℕ) (r
     cells : 0 < length t
     cells = some M proper ab t sound
 
-    pub counted : close_round M m ab t rs answers out ≡ Count (count_of (left_table M m ab t rs))
+    pub counted : close_round M m ab t rs answers out ≡ Ok (count_of (left_table M m ab t rs))
     counted = ap (counted_by (count_of left)) (none-accepted (first_of bars) (sym (count-number (count_of left) (first_of bars)) ∙ z))
       where
         bars : List Bar
@@ -217,13 +216,13 @@ module _ (M : Model) (proper : Proper M) (m : ℕ) (ab : Hash) (t : List ℕ) (r
     left-has y nz = Iff.trans (laid-has M proper ab (length t) cells rest few y nz) (Iff.trans (Iff.symm (rest-least y nz)) (in_rest y))
 
     -- look-up and take-out shifts on the lent table open
-    pub opens-again : (k : ℕ) → formed.Kind k → k ≢ 1 → (os : List Order) → open_reply M k m ab t os ≡ Accepted
+    pub opens-again : (k : ℕ) → formed.Kind k → k ≢ 1 → (os : List Order) → open_reply M k m ab t os ≡ Ok tt
     opens-again k kind ne os =
         let p = passed z in
         passed-opens M k m ab t os proper
         (record { size = p.size; crew = p.crew; kind = kind; odd = p.odd; sound = λ _. (sounds.words M ab t).1 sound; list = λ is. absurd (ne is) })
 
-    pub take-out-opens : (os : List Order) → open_reply M 2 m ab t os ≡ Accepted
+    pub take-out-opens : (os : List Order) → open_reply M 2 m ab t os ≡ Ok tt
     take-out-opens = opens-again 2 (omega arith, omega arith) (λ e. omega arith)
 
     looked_up : (os : List Order) (cs : List Call) → AsSaid m t (after M 3 m ab t os cs).said
@@ -253,7 +252,7 @@ module _ (M : Model) (proper : Proper M) (m : ℕ) (ab : Hash) (t : List ℕ) (r
         let p = passed z in
         let r = at_rest M proper ab left out in
         let right : formed.Size M (length left) = (omega (arith, p.size.0, left-long), omega (arith, p.size.1, left-long)) in
-        let count : tables.count_call M ab left ≡ Count (count_of left) =
+        let count : tables.count_call M ab left ≡ Ok (count_of left) =
         ap (counted_by (count_of left)) (none-accepted (tables.check_call M ab left) (r.passes.1 (right, p.odd, left-sound))) in
         r.list_counts (omega (arith, left-fits, ap count_value count)) ∙ count ∙ sym counted
 

@@ -1,4 +1,5 @@
 -- A round: what was sent is replied or listed.
+use Rattle.std.specs.Prelude.{Ok}
 use mathlib.Core.Path.{◌≡◌, refl, sym, ap, ◌∙◌, subst}
 use mathlib.Core.Logic.{◌≢◌, ◌↔◌, ◌⊎◌, inl, inr, ⊎_elim}
 use mathlib.Core.List.{List, [], ◌∷◌, ◌++◌}
@@ -21,10 +22,7 @@ use Rattle.words.specs.Words.{occupied, entries_of, filled, count_of}
 use Rattle.words.proofs.Theorem.{theorem as listing}
 use Rattle.state.specs.Counts.{count_number, count_value, if_counted}
 use Rattle.state.specs.Model.{Model, Proper}
-use Rattle.state.specs.declared.Counted.{Counted}
-use Rattle.state.specs.declared.Counted.TheVariants.{Count}
-use Rattle.state.specs.declared.Reply.{Reply}
-use Rattle.state.specs.declared.Reply.TheVariants.{Accepted}
+use Rattle.state.specs.Replies.{Counted, Reply}
 use Rattle.protocol.specs.Lines.{Good}
 use Rattle.tables.specs.Calls as tables
 use Rattle.tables.proofs.Theorem.{theorem as at_rest}
@@ -44,8 +42,8 @@ key-some m [] good v i z = i
 key-some m (o ∷ os) good v (inl e) z = (good 0 (omega arith)).key (sym e ∙ z)
 key-some m (o ∷ os) good v (inr i) z = key-some m os (λ i l. good (suc i) (omega arith)) v i z
 
-module _ (M : Model) (proper : Proper M) (m m' : ℕ) (ab : Hash) (t : List ℕ) (os : List Order) (ok : open_round M m ab t os ≡ Accepted)
-    (rs : List Ack) (answers out : List ℕ) (c : ℕ) (is : close_round M m' ab (sent_table M m ab t os) rs answers out ≡ Count c) where
+module _ (M : Model) (proper : Proper M) (m m' : ℕ) (ab : Hash) (t : List ℕ) (os : List Order) (ok : open_round M m ab t os ≡ Ok tt)
+    (rs : List Ack) (answers out : List ℕ) (c : ℕ) (is : close_round M m' ab (sent_table M m ab t os) rs answers out ≡ Ok c) where
   abbrev sent : List ℕ
   sent = sent_table M m ab t os
 
@@ -162,8 +160,8 @@ round M proper m m' ab t os ok rs answers out c is =
 pub gives : GivesPromise
 gives = record {
   round = λ M proper m m' ab t os t' o rs answers out c t'' answers' out' h.
-      let k : Closes M m' ab (sent_table M m ab t os) rs answers out (Count c) t'' answers' out' =
-      subst (λ (u : List ℕ). Closes M m' ab u rs answers out (Count c) t'' answers' out') o.table h in
+      let k : Closes M m' ab (sent_table M m ab t os) rs answers out (Ok c) t'' answers' out' =
+      subst (λ (u : List ℕ). Closes M m' ab u rs answers out (Ok c) t'' answers' out') o.table h in
       let none = ap count_number (sym k.reply) in
       let (call, after) = (closing M proper m' ab (sent_table M m ab t os) rs answers out).listed none in
       let order = (at_rest M proper ab (table_after M m' ab (sent_table M m ab t os) rs answers out) out).listed (ap count_number call ∙ none) in (

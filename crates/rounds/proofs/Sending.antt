@@ -1,4 +1,5 @@
 -- Opening a round: its refusals, and the table that it leaves.
+use Rattle.std.specs.Prelude.{Ok}
 use mathlib.Core.Path.{◌≡◌, refl, sym, ap, ap₂, ◌∙◌, subst}
 use mathlib.Core.Logic.Iff
 use mathlib.Core.Logic.{◌≢◌, ◌↔◌, inl, inr, ⊎_elim}
@@ -24,8 +25,7 @@ use Rattle.rule.proofs.Crew.{replicate-at}
 use Rattle.state.specs.Model.{Model, Proper}
 use Rattle.state.specs.Open.{open_reply}
 use Rattle.state.specs.Refusals.{reply_number}
-use Rattle.state.specs.declared.Reply.{Reply}
-use Rattle.state.specs.declared.Reply.TheVariants.{Accepted}
+use Rattle.state.specs.Replies.{Reply}
 use Rattle.protocol.specs.Cases.{Case, wants, Decides}
 use Rattle.protocol.specs.Lines.{Good, line_cases}
 use Rattle.protocol.specs.Promise.{Soundness, even_cases, sound_cases, long_cases, full_cases, insert_cases}
@@ -108,7 +108,7 @@ module _ (M : Model) (proper : Proper M) (m : ℕ) (ab : Hash) (t : List ℕ) (o
       (λ ok. absurd (nz (ap reply_number ok)))
       (λ _ no. ap (λ (r : Reply). if_accepted r laid t) no)
 
-  module _ (ok : open_round M m ab t os ≡ Accepted) where
+  module _ (ok : open_round M m ab t os ≡ Ok tt) where
     pub lines : (i : ℕ) → i < length os → Good m (get_or os i blank)
     lines = ((open-passed M 1 m ab (empty (length t)) os ok).list refl).lines
 
@@ -173,7 +173,7 @@ module _ (M : Model) (proper : Proper M) (m : ℕ) (ab : Hash) (t : List ℕ) (o
 
 pub sending : SendingPromise
 sending M proper m ab t os =
-    let accepted : reply_number (open_round M m ab t os) ≡ 0 → open_round M m ab t os ≡ Accepted = none-accepted (open_round M m ab t os) in
+    let accepted : reply_number (open_round M m ab t os) ≡ 0 → open_round M m ab t os ≡ (Ok tt) = none-accepted (open_round M m ab t os) in
     record {
       decides = decides M m ab os proper t;
       unread = λ u e. ap (λ (n : ℕ). open_reply M 1 m ab (empty n) os) e;

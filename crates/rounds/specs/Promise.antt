@@ -1,5 +1,5 @@
 -- What is promised of reply rounds, for every table, list, number and model, in the document's words. Proved in proofs/Theorem.
-use Rattle.std.specs.Prelude.{◌≡◌, ◌≢◌, ◌↔◌, ◌⊎◌, true, List, [], ◌∷◌, ◌++◌, ℕ, ◌+◌, ◌≤◌, ◌<◌, T, length, get_or, take, replicate}
+use Rattle.std.specs.Prelude.{◌≡◌, ◌≢◌, ◌↔◌, ◌⊎◌, true, List, [], ◌∷◌, ◌++◌, ℕ, ◌+◌, ◌≤◌, ◌<◌, T, length, get_or, take, replicate, Ok, Err}
 use Rattle.layout.specs.Layout.{In, size}
 use Rattle.homes.specs.declared.Hash.{Hash}
 use Rattle.prices.specs.Contents.{label, price}
@@ -11,10 +11,7 @@ use Rattle.rule.specs.Events.{Said}
 use Rattle.state.specs.Counts.{count_number}
 use Rattle.state.specs.Model.{Model, Proper}
 use Rattle.state.specs.Refusals.{reply_number}
-use Rattle.state.specs.declared.Counted.TheVariants as counted
-use Rattle.state.specs.declared.Counted.TheVariants.{Count}
 use Rattle.state.specs.declared.Refusal.{Refusal}
-use Rattle.state.specs.declared.Reply.TheVariants.{Accepted, Refused}
 use Rattle.protocol.specs.Cases.{Case, case, wants, forbids, Decides}
 use Rattle.protocol.specs.Lines.{line_cases}
 use Rattle.protocol.specs.Promise.{Soundness, size_cases, even_cases, sound_cases, long_cases, full_cases}
@@ -141,15 +138,15 @@ pub record Round (os : List Order) (rs : List Ack) (answers out : List ℕ) (c :
 
 -- if table, a and b come back as the opening left them and closing isn't refused, whatever the worker counts
 abbrev pub ReplyRoundPromise : Type 0
-ReplyRoundPromise = (M : Model) → Proper M → (m m' : ℕ) (ab : Hash) (t : List ℕ) (os : List Order) → open_round M m ab t os ≡ Accepted
-    → (rs : List Ack) (answers out : List ℕ) (c : ℕ) → close_round M m' ab (sent_table M m ab t os) rs answers out ≡ Count c
+ReplyRoundPromise = (M : Model) → Proper M → (m m' : ℕ) (ab : Hash) (t : List ℕ) (os : List Order) → open_round M m ab t os ≡ Ok tt
+    → (rs : List Ack) (answers out : List ℕ) (c : ℕ) → close_round M m' ab (sent_table M m ab t os) rs answers out ≡ Ok c
     → Round os rs (answers_after M m' ab (sent_table M m ab t os) rs answers out) (list_after M m' ab (sent_table M m ab t os) rs answers out) c
 
 -- ---- the same of the answers and the list that the functions give, and that the list has what is left in the table, in cell order; a refusal changes nothing
 pub record GivesPromise : Type 0 where
-  pub round : (M : Model) → Proper M → (m m' : ℕ) (ab : Hash) (t : List ℕ) (os : List Order) (t' : List ℕ) → Opens M m ab t os Accepted t'
-      → (rs : List Ack) (answers out : List ℕ) (c : ℕ) (t'' answers' out' : List ℕ) → Closes M m' ab t' rs answers out (Count c) t'' answers' out'
+  pub round : (M : Model) → Proper M → (m m' : ℕ) (ab : Hash) (t : List ℕ) (os : List Order) (t' : List ℕ) → Opens M m ab t os (Ok tt) t'
+      → (rs : List Ack) (answers out : List ℕ) (c : ℕ) (t'' answers' out' : List ℕ) → Closes M m' ab t' rs answers out (Ok c) t'' answers' out'
       → Round os rs answers' out' c × InCellOrder t'' out'
-  pub not_opened : (M : Model) (m : ℕ) (ab : Hash) (t : List ℕ) (os : List Order) (why : Refusal) (t' : List ℕ) → Opens M m ab t os (Refused why) t' → t' ≡ t
+  pub not_opened : (M : Model) (m : ℕ) (ab : Hash) (t : List ℕ) (os : List Order) (why : Refusal) (t' : List ℕ) → Opens M m ab t os (Err why) t' → t' ≡ t
   pub not_closed : (M : Model) (m : ℕ) (ab : Hash) (t : List ℕ) (rs : List Ack) (answers out : List ℕ) (why : Refusal) (t' answers' out' : List ℕ)
-      → Closes M m ab t rs answers out (counted.Refused why) t' answers' out' → (t' ≡ t) × (answers' ≡ answers) × (out' ≡ out)
+      → Closes M m ab t rs answers out (Err why) t' answers' out' → (t' ≡ t) × (answers' ≡ answers) × (out' ≡ out)

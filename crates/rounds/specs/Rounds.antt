@@ -1,5 +1,5 @@
 -- Reply rounds (document 02, point 8): a list is sent and stands in the table, the keys that reply are taken out, and what is left is listed.
-use Rattle.std.specs.Prelude.{◌≡◌, Bool, true, cond, List, [], ◌∷◌, ◌++◌, map, ℕ, ltb, leb, eqb, length, drop, replicate}
+use Rattle.std.specs.Prelude.{◌≡◌, Bool, true, cond, List, [], ◌∷◌, ◌++◌, map, ℕ, ltb, leb, eqb, length, drop, replicate, Ok, Err}
 use Rattle.layout.specs.Layout.{listed}
 use Rattle.homes.specs.declared.Hash.{Hash}
 use Rattle.prices.specs.Contents.{label, content}
@@ -10,10 +10,8 @@ use Rattle.state.specs.Counts.{counted_by, if_counted}
 use Rattle.state.specs.Model.{Model, crew_ok}
 use Rattle.state.specs.Open.{hash_bars, size_bars, sound_bars, open_reply}
 use Rattle.state.specs.Refusals.{Bar, if, unless, reply_number, first_of}
-use Rattle.state.specs.declared.Counted.{Counted}
+use Rattle.state.specs.Replies.{Counted, Reply}
 use Rattle.state.specs.declared.Refusal.TheVariants.{Crew, NoWorker, Blank, ShortList, Absent}
-use Rattle.state.specs.declared.Reply.{Reply}
-use Rattle.state.specs.declared.Reply.TheVariants.{Accepted, Refused}
 
 -- ---- acknowledgements (document 02: replies): the key that replied, and the worker that heard it
 pub record Ack : Type 0 where
@@ -43,8 +41,8 @@ sent_entries os = map line_entry os
 
 -- one of two: the first where the call is accepted
 abbrev pub if_accepted : {A : Type 0} → Reply → A → A → A
-if_accepted Accepted kept refused = kept
-if_accepted (Refused r) kept refused = refused
+if_accepted (Ok _) kept refused = kept
+if_accepted (Err r) kept refused = refused
 
 module _ (M : Model) (m : ℕ) (ab : Hash) (t : List ℕ) (os : List Order) where
   -- checked as by the opening of an insert phase (put-in shift) on an empty table of the lent table's length

@@ -1,4 +1,5 @@
 -- The cell that a step touches, and what a step makes of an activity that a worker may have: another such activity, whatever the cell holds.
+use Rattle.std.specs.Prelude.{Some, None}
 use mathlib.Core.Path.{◌≡◌, refl, sym, ◌∙◌}
 use mathlib.Core.Logic.{◌≢◌}
 use mathlib.Core.Bool.{false, true}
@@ -13,10 +14,9 @@ use Rattle.activities.specs.declared.Activity.{Activity}
 use Rattle.activities.specs.declared.Activity.TheVariants.{Idle, Reading, Replacing, WalkingBack, SeekingForward, SeekingBack}
 use Rattle.rule.specs.Rule.{touched, settled, absorbed, fits, narrow, insert_step, find_step, delete_step, rule}
 use Rattle.rule.specs.declared.Outcome.{Outcome}
-use Rattle.rule.specs.declared.Place.TheVariants.{Nowhere, At}
 
 -- ---- the touched cell is one of the activity's
-pub touched-below : (n : ℕ) (a : Activity) (c : ℕ) → Below n (cells_of a) → touched a ≡ At c → c < n
+pub touched-below : (n : ℕ) (a : Activity) (c : ℕ) → Below n (cells_of a) → touched a ≡ Some c → c < n
 touched-below n Idle c w e = let z : ◌≡◌ {A = ℕ} 0 1 = cc in omega arith
 touched-below n (Reading v d) c w e = let z : d ≡ c = cc in omega arith
 touched-below n (Replacing v d j x) c w e = let z : d ≡ c = cc in omega arith
@@ -25,7 +25,7 @@ touched-below n (SeekingForward v d j) c w e = let z : j ≡ c = cc in omega ari
 touched-below n (SeekingBack p v d j x) c w e = let z : p ≡ c = cc in omega arith
 
 -- a worker that touches nothing is idle
-pub nowhere-idle : (a : Activity) → touched a ≡ Nowhere → a ≡ Idle
+pub nowhere-idle : (a : Activity) → touched a ≡ None → a ≡ Idle
 nowhere-idle Idle e = refl
 nowhere-idle (Reading v i) e = cc
 nowhere-idle (Replacing v k j x) e = cc

@@ -1,13 +1,11 @@
 -- A phase (document 01: shift) as a list of events: workers that share a table, each given operations and moved one step at a time by the rule.
-use Rattle.std.specs.Prelude.{◌≡◌, Bool, true, false, cond, List, [], ◌∷◌, ◌++◌, ℕ, ◌+◌, ltb, eqb, length, get_or, set, replicate}
+use Rattle.std.specs.Prelude.{◌≡◌, Bool, true, false, cond, List, [], ◌∷◌, ◌++◌, ℕ, ◌+◌, ltb, eqb, length, get_or, set, replicate, Option, Some, None}
 use Rattle.activities.specs.Activities.{busy, entry_of}
 use Rattle.activities.specs.declared.Activity.{Activity}
 use Rattle.activities.specs.declared.Activity.TheVariants.{Idle}
 use Rattle.rule.specs.declared.Answer.{Answer}
 use Rattle.rule.specs.declared.Answer.TheVariants.{WentOn, Finished, Price, No}
 use Rattle.rule.specs.declared.Answer.TheVariants as answer
-use Rattle.rule.specs.declared.Place.{Place}
-use Rattle.rule.specs.declared.Place.TheVariants.{Nowhere, At}
 use Rattle.rule.specs.Rule.{touched, rule, start}
 
 -- ---- the state between two events
@@ -47,9 +45,9 @@ tells v answer.Idle = []
 -- ---- events in a phase of kind k with n cells
 module _ (k n : ℕ) (key home : ℕ → ℕ) where
   -- worker w, whose activity is a, steps at a place
-  abbrev pub stepped_at : Run → ℕ → Activity → Place → Run
-  stepped_at s w a Nowhere = s
-  stepped_at s w a (At c) =
+  abbrev pub stepped_at : Run → ℕ → Activity → Option ℕ → Run
+  stepped_at s w a None = s
+  stepped_at s w a (Some c) =
       let o = rule k n key home a (get_or s.table c 0) in
       record {
         table = set s.table c o.content;

@@ -1,7 +1,7 @@
 -- The worker's rule: what a step (document 01: turn) makes of a worker's activity and of the one cell that it touches. It is total: what a forged
 -- activity does is fixed by it as well. Code and theorems share it. The home rule is any, and so is the rule that gives the label of a content.
 -- Kinds of phase: 1 insert (put in), 2 delete (take out), 3 find (look up).
-use Rattle.std.specs.Prelude.{Bool, true, false, cond, ℕ, leb, ltb, eqb}
+use Rattle.std.specs.Prelude.{Bool, true, false, cond, ℕ, leb, ltb, eqb, Option, Some, None}
 use Rattle.ring.specs.Ring.{dist, next, prev}
 use Rattle.prices.specs.Contents.{price}
 use Rattle.activities.specs.declared.Activity.{Activity}
@@ -10,17 +10,15 @@ use Rattle.rule.specs.declared.Answer.{Answer}
 use Rattle.rule.specs.declared.Answer.TheVariants.{WentOn, Finished, Price, No}
 use Rattle.rule.specs.declared.Answer.TheVariants as answer
 use Rattle.rule.specs.declared.Outcome.{Outcome}
-use Rattle.rule.specs.declared.Place.{Place}
-use Rattle.rule.specs.declared.Place.TheVariants.{Nowhere, At}
 
 -- ---- the one cell that a step touches; an idle worker touches none
-abbrev pub touched : Activity → Place
-touched Idle = Nowhere
-touched (Reading v i) = At i
-touched (Replacing v k j x) = At k
-touched (WalkingBack v k) = At k
-touched (SeekingForward v k j) = At j
-touched (SeekingBack p v k j x) = At p
+abbrev pub touched : Activity → Option ℕ
+touched Idle = None
+touched (Reading v i) = Some i
+touched (Replacing v k j x) = Some k
+touched (WalkingBack v k) = Some k
+touched (SeekingForward v k j) = Some j
+touched (SeekingBack p v k j x) = Some p
 
 -- ---- outcomes
 -- the worker went on, and leaves the content c

@@ -21,10 +21,3 @@ pub struct Outcome {
     pub content: u64,
     pub answer: Answer,
 }
-
-// The cell that a step touches.
-#[derive(Clone, Copy)]
-pub enum Place {
-    Nowhere,
-    At(u32),
-}

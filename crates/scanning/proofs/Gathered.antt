@@ -3,7 +3,7 @@ use Rattle.std.proofs.Common.{◌≡◌, ◌⊎◌, ◌+◌, ◌-◌, ◌*◌, �
 use native.Mathlib.Nat.{add-zero, pow-le-pow_right, pow-succ', mod-eq_of_lt, mod-lt}
 use lib.ListN.{length-drop, drop_of_length-le}
 use lib.Seq.{get_or-drop}
-use Rattle.text.specs.declared.Number.{Number}
+use Rattle.std.specs.Prelude.{Some, None}
 use Rattle.text.specs.Numbers.{greatest_number, longest_number, leads, value_from, value_of, digits_in, leading, run_at}
 use Rattle.text.proofs.Values.{leads-nil, leads-zero, leads-alone, leads-other, value-nil, value-cons, no_lead, too-great, is-number}
 use Rattle.text.proofs.Digits.{too_long}
@@ -83,23 +83,23 @@ module _ {s : List ℕ} {from x i : ℕ} (v : Gathering s from x i) (z : digits_
   inside : from < i → from < length s
   inside h = omega (arith, ended, run-le (drop from s), length-drop from s)
 
-  pub unled : leads (leading (drop from s)) ≡ false → record { number = Number.Unreadable; end = i } ≡ run_at s from
+  pub unled : leads (leading (drop from s)) ≡ false → record { number = None; end = i } ≡ run_at s from
   unled e = run_none s from i (no_lead _ e) ended
 
-  pub empty : i ≤ from → record { number = Number.Unreadable; end = i } ≡ run_at s from
+  pub empty : i ≤ from → record { number = None; end = i } ≡ run_at s from
   empty h = unled (leads-nil _ (omega (arith, long)))
 
-  pub too_many : longest_number < i - from → record { number = Number.Unreadable; end = i } ≡ run_at s from
+  pub too_many : longest_number < i - from → record { number = None; end = i } ≡ run_at s from
   too_many h = run_none s from i (too_long _ (omega (arith, long))) ended
 
-  pub too-high : i - from ≤ longest_number → greatest_number < x → record { number = Number.Unreadable; end = i } ≡ run_at s from
+  pub too-high : i - from ≤ longest_number → greatest_number < x → record { number = None; end = i } ≡ run_at s from
   too-high k m = run_none s from i (too-great _ (omega (arith, value k))) ended
 
   -- also where nothing is known of how many they are
-  pub too-big : greatest_number < x → record { number = Number.Unreadable; end = i } ≡ run_at s from
+  pub too-big : greatest_number < x → record { number = None; end = i } ≡ run_at s from
   too-big m = by-lt longest_number (i - from) too_many (λ k. too-high k m)
 
-  pub zeros : from < i → get_or s from 0 ≡ 48 → 1 < i - from → record { number = Number.Unreadable; end = i } ≡ run_at s from
+  pub zeros : from < i → get_or s from 0 ≡ 48 → 1 < i - from → record { number = None; end = i } ≡ run_at s from
   zeros h e k = unled (leads-zero _ (first h ∙ e) (omega (arith, long)))
 
   pub led : from < i → (i - from ≤ 1) ⊎ (get_or s from 0 ≡ 48 → ⊥) → leads (leading (drop from s)) ≡ true
@@ -107,7 +107,5 @@ module _ {s : List ℕ} {from x i : ℕ} (v : Gathering s from x i) (z : digits_
       (λ (k : i - from ≤ 1). leads-alone _ (omega (arith, long)))
       (λ (k : get_or s from 0 ≡ 48 → ⊥). leads-other _ (omega (arith, long)) (λ e. k (sym (first h) ∙ e)))
 
-  pub done : i - from ≤ longest_number → x ≤ greatest_number → leads (leading (drop from s)) ≡ true → record { number = Number.Read x; end = i } ≡ run_at s from
+  pub done : i - from ≤ longest_number → x ≤ greatest_number → leads (leading (drop from s)) ≡ true → record { number = Some x; end = i } ≡ run_at s from
   done k m e = run-some s from x i (is-number _ e (leading-digits (drop from s)) (omega (arith, value k))) (value k) ended
-
-pub ruleset gathered_rules = (past, lower, higher, too_many, too-big)

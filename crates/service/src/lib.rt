@@ -6,11 +6,16 @@ ghost use Rattle.state.specs.Model.{model_of};
 ghost use Rattle.protocol.specs.Calls.{turn_call, turn_table};
 
 use calls::turn;
-use protocol::TurnReply;
-use state::{Device, Phase};
+use rule::Answer;
+use state::{Device, Phase, Refusal};
 
 // The reply, the phase and the table are those of the plain turn.
-pub fn serve(device: Device, phase: &mut Phase, cells: &mut [u64], worker: usize) -> TurnReply
+pub fn serve(
+    device: Device,
+    phase: &mut Phase,
+    cells: &mut [u64],
+    worker: usize,
+) -> Result<Answer, Refusal>
     ensures { (result ≡ (turn_call (model_of device) phase.old cells.old worker).reply)
         × ((phase.new ≡ (turn_call (model_of device) phase.old cells.old worker).phase)
         × (cells.new ≡ turn_table (model_of device) phase.old cells.old worker)) }

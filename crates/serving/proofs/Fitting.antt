@@ -1,4 +1,5 @@
 -- Which orders an idle worker may be given, and what a find tells.
+use Rattle.std.specs.Prelude.{Some}
 use mathlib.Core.Path.{◌≡◌, refl, ap, subst, ◌∙◌}
 use mathlib.Core.Logic.{◌≢◌, ◌↔◌, ⊎_elim}
 use mathlib.Core.Bool.{true, false}
@@ -30,6 +31,7 @@ use Rattle.state.proofs.Model.{most-workers}
 use Rattle.protocol.specs.Bars.{doing}
 use Rattle.protocol.specs.Calls.{order_found}
 use Rattle.protocol.specs.Lines.{Good}
+use Rattle.protocol.proofs.Lines.{line-order, line-lacks}
 use Rattle.protocol.proofs.Theorem.{opens, orders}
 use Rattle.dealing.specs.Deal.{Dealing}
 use Rattle.dealing.specs.Promise.{finish_of, Runs}
@@ -54,11 +56,11 @@ line-fit d m ab os t p u s i l w v =
     let e = eq-eqb p.kind 1 (kind d 1 m ab os t p u s) in
     let fine : price_ok (get_or os i blank).price ≡ true = rw (le-leb _ _ good.price.0, le-leb _ _ good.price.1) in
     record {
-      there = rw (e, lt-ltb _ _ l);
-      worker = rw (e, crew d 1 m ab os t p u s) good.worker;
-      key = rw e good.key;
-      shop = rw (e, lt-leb _ _ good.shop);
-      price = rw (e, fine);
+      there = rw (e, line-lacks os i, lt-ltb _ _ l);
+      worker = rw (e, line-order os i, crew d 1 m ab os t p u s) good.worker;
+      key = rw (e, line-order os i) good.key;
+      shop = rw (e, line-order os i, lt-leb _ _ good.shop);
+      price = rw (e, line-order os i, fine);
     }
 
 -- ---- what a find tells of its acknowledgement
@@ -95,7 +97,7 @@ module _ (d : Device) (m : ℕ) (ab : Hash) (t : List ℕ) (p : Phase) (s : Serv
   found_right : (e : Dealing) → Runs gateway next t e → found_number (finish_of e w) ≡ reply_number (ack_reply m t (ack_with v w))
   found_right e runs =
       let is = next-kind d 3 m ab [] t p t s 0 w v fits ∙ kind d 3 m ab [] t p t s in
-      let right : (q : ℕ) → (finish_of e w ≡ Price q) ↔ Sold label t v q = λ q. subst (λ (x : ℕ). (finish_of e w ≡ Price q) ↔ Sold label t x q) wants (runs.right w busy is q) in
+      let right : (q : ℕ) → (finish_of e w ≡ Some (Price q)) ↔ Sold label t v q = λ q. subst (λ (x : ℕ). (finish_of e w ≡ Some (Price q)) ↔ Sold label t x q) wants (runs.right w busy is q) in
       by-listed v (labels label t)
       (λ i yes. rw (ne_eqb v 0 key, lt-leb m w there, yes)
       (let c = labels_in label t v i in

@@ -30,6 +30,7 @@ use Rattle.protocol.specs.Calls.{order_found}
 use Rattle.rounds.specs.Rounds.{Ack, no_ack, acks_of, line_entry, sent_entries, acked, orders_out}
 use Rattle.rounds.proofs.Acks.{ack-at}
 use Rattle.rounds.proofs.Lines.{in-sent}
+use Rattle.protocol.proofs.Lines.{line-order}
 use Rattle.serving.specs.Serving.{Opened, Served, Answered}
 use Rattle.serving.proofs.Fitting.{handed-fit, line-fit}
 use Rattle.serving.proofs.Serving.{ordered_by, begins, Fit, kind, crew, entry, may-run, goes_on, closed-table}
@@ -172,7 +173,7 @@ module _ (d : Device) (m : ℕ) (ab : Hash) (os : List Order) (t : List ℕ) (i 
   pub insert-next : (r : Dealing) → Runs gateway (order_found (model_of d) p (line_at os i) 0 0).phase u r → Inserting d m ab os t (i + 1) r.dealt.phase r.table
   insert-next =
       let e = eq-eqb p.kind 1 (kind d 1 m ab os t p u s.0) in
-      one_more d 1 m ab os t (λ _. Unit {0}) (λ j. line_entry (get_or os j blank)) i p u s i 0 0 fits tt (rw e)
+      one_more d 1 m ab os t (λ _. Unit {0}) (λ j. line_entry (get_or os j blank)) i p u s i 0 0 fits tt (rw (e, line-order os i))
 
 -- ---- a loop over acknowledgements, of which a delete phase is ordered those with the answer 0
 abbrev pub Deleting : (d : Device) (m : ℕ) (ab : Hash) (rs : List Ack) (ns t : List ℕ) (i : ℕ) (p : Phase) (u : List ℕ) → Type 0

@@ -1,4 +1,5 @@
 -- One order after the other: each is accepted, and after the turns that follow all workers are idle again.
+use Rattle.std.specs.Prelude.{Ok}
 use mathlib.Core.Path.{◌≡◌, refl, sym, ap, subst, ◌∙◌}
 use mathlib.Core.Logic.{◌≢◌}
 use mathlib.Core.Bool.{true, false}
@@ -18,8 +19,7 @@ use Rattle.state.specs.Refusals.{reply_number}
 use Rattle.state.specs.declared.Device.{Device}
 use Rattle.state.specs.declared.Phase.{Phase}
 use Rattle.state.specs.declared.Replied.{Replied}
-use Rattle.state.specs.declared.Reply.{Reply}
-use Rattle.state.specs.declared.Reply.TheVariants.{Accepted}
+use Rattle.state.specs.Replies.{Reply}
 use Rattle.state.proofs.Model.{gateway-proper}
 use Rattle.protocol.specs.Bars.{doing, adds_test, mispriced}
 use Rattle.protocol.specs.Calls.{asked, missing, entry_for, found_reply, ordered, order_call, order_found, closed, close_reply, close_call, turn_call, turn_table}
@@ -49,7 +49,7 @@ pub begins : (d : Device) (os : List Order) (p : Phase) (t : List ℕ) → Opene
 unfolding history.run
 begins d os p t e =
     let o = opens (model_of d) p.kind p.crew p.hash t os in
-    let is : open_reply (model_of d) p.kind p.crew p.hash t os ≡ Accepted = sym o.reply ∙ ap (λ (r : Replied). r.reply) e in
+    let is : open_reply (model_of d) p.kind p.crew p.hash t os ≡ (Ok tt) = sym o.reply ∙ ap (λ (r : Replied). r.reply) e in
     let passed = open-passed (model_of d) p.kind p.crew p.hash t os is in
     let rests = o.accepted (ap (λ (r : Replied). reply_number r.reply) e) in
     let first : p ≡ (open_call (model_of d) p.kind p.crew p.hash t os).phase = ap (λ (r : Replied). r.phase) (sym e) in
@@ -88,14 +88,14 @@ rounds-unordered m zero = λ os s. refl
 rounds-unordered m (suc r) = round-unordered m (rounds m r) (rounds-unordered m r)
 
 -- an accepted order is counted
-order-adds : (os : List Order) (i w v : ℕ) (s : History) → (order_call gateway s.phase os i w v).reply ≡ Accepted
+order-adds : (os : List Order) (i w v : ℕ) (s : History) → (order_call gateway s.phase os i w v).reply ≡ Ok tt
     → (call gateway os (order i w v) s).ordered
     ≡ (let o = asked s.phase.kind (line_at os i) w v in entry_for s.phase.kind o.key o.price) ∷ s.ordered
 unfolding call
 order-adds os i w v s e = rw e
 
 -- an accepted close leaves all else
-close-keeps : (os : List Order) (s : History) → (close_call gateway s.phase).reply ≡ Accepted
+close-keeps : (os : List Order) (s : History) → (close_call gateway s.phase).reply ≡ Ok tt
     → ((call gateway os close s).closed ≡ true) × ((call gateway os close s).table ≡ s.table) × ((call gateway os close s).ordered ≡ s.ordered)
 unfolding call
 close-keeps os s e = rw e (refl, refl, refl)
@@ -138,7 +138,7 @@ module _ (d : Device) (k m : ℕ) (ab : Hash) (os : List Order) (t : List ℕ) (
 
   -- ---- an order
   module _ (i w v : ℕ) (fit : Fit p os i w v) where
-    accepts : found_reply gateway p (line_at os i) w v ≡ Accepted
+    accepts : found_reply gateway p (line_at os i) w v ≡ Ok tt
     accepts = let o = asked p.kind (line_at os i) w v in
         simp (
           well,
@@ -152,12 +152,12 @@ module _ (d : Device) (k m : ℕ) (ab : Hash) (os : List Order) (t : List ℕ) (
         )
 
     given : order_found gateway p (line_at os i) w v ≡ ordered gateway p (missing p.kind (line_at os i)) (asked p.kind (line_at os i) w v).worker
-        (asked p.kind (line_at os i) w v).key (asked p.kind (line_at os i) w v).price Accepted
+        (asked p.kind (line_at os i) w v).key (asked p.kind (line_at os i) w v).price (Ok tt)
     given = ap (λ (r : Reply). ordered gateway p (missing p.kind (line_at os i)) (asked p.kind (line_at os i) w v).worker
         (asked p.kind (line_at os i) w v).key (asked p.kind (line_at os i) w v).price r) accepts
 
     -- it is accepted, by the model's call and by the gateway's
-    pub order-accepted : ((order_found (model_of d) p (line_at os i) w v).reply ≡ Accepted) × ((order_call gateway p os i w v).reply ≡ Accepted)
+    pub order-accepted : ((order_found (model_of d) p (line_at os i) w v).reply ≡ Ok tt) × ((order_call gateway p os i w v).reply ≡ Ok tt)
     order-accepted = let ok = ap (λ (r : Replied). r.reply) given in (ap (λ (r : Replied). r.reply) (order_alike d p formed (line_at os i) w v) ∙ ok, ok)
 
     -- the phase that it leaves
@@ -188,7 +188,7 @@ module _ (d : Device) (k m : ℕ) (ab : Hash) (os : List Order) (t : List ℕ) (
 
     then-ordered : then.ordered ≡ entry ∷ here.ordered
     then-ordered =
-        subst (λ (q : Phase). (order_call gateway q os i w v).reply ≡ Accepted
+        subst (λ (q : Phase). (order_call gateway q os i w v).reply ≡ Ok tt
         → then.ordered ≡ (let o = asked q.kind (line_at os i) w v in entry_for q.kind o.key o.price) ∷ here.ordered)
         (sym s.phase) (order-adds os i w v here) order-accepted.1
 
@@ -245,10 +245,10 @@ module _ (d : Device) (k m : ℕ) (ab : Hash) (os : List Order) (t : List ℕ) (
         )
 
   -- ---- the close
-  closes : close_reply gateway p ≡ Accepted
+  closes : close_reply gateway p ≡ Ok tt
   closes = let idle = (all-idle-says p.workers).1 s.idle in simp (well, s.running, idle)
 
-  pub close-accepted : (close_call (model_of d) p).reply ≡ Accepted
+  pub close-accepted : (close_call (model_of d) p).reply ≡ Ok tt
   close-accepted = ap (λ (r : Replied). r.reply) (close-alike d p formed) ∙ ap (λ (a : Reply). (closed gateway p a).reply) closes
 
   -- the table is then the layout of what the orders leave

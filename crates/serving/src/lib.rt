@@ -6,7 +6,6 @@ ghost use Rattle.std.specs.Prelude.{◌≡◌, false, [], ◌++◌, ◌≤◌, l
 ghost use Rattle.homes.specs.Homes.{spread};
 ghost use Rattle.prices.specs.Contents.{label};
 ghost use Rattle.prices.specs.Priced.{priced_layout, without_labels};
-ghost use Rattle.orders.specs.Orders.{orders_of};
 ghost use Rattle.state.specs.Model.{gateway, model_of};
 ghost use Rattle.state.specs.Refusals.{reply_number};
 ghost use Rattle.protocol.specs.Calls.{order_found};
@@ -16,18 +15,17 @@ ghost use Rattle.rounds.specs.Rounds.{ack_with, acks_of, sent_entries, ack_reply
 ghost use Rattle.serving.specs.Serving.{Opened, Served, found_number, Answered};
 
 use calls::{close, order_found};
-use dealing::{Dealt, Ended, Finish, run};
-use lent::no_line;
-use orders::Found;
-use parallel::{least, line_of, lines_of};
-use state::{Device, Phase, Refusal, Reply};
+use dealing::{Dealt, Ended, run};
+use lent::Lines;
+use orders::Order;
+use state::{Device, Phase, Refusal};
 
 // One order, served: by a line that was found, or for the worker and the key handed in.
 fn serve_order(
     device: Device,
     phase: Phase,
     cells: &mut [u64],
-    found: Found,
+    found: Option<Order>,
     worker: usize,
     key: u32,
 ) -> Dealt
@@ -42,26 +40,20 @@ fn serve_order(
 
 // ---- insert
 // Serves every line of the list that the phase was opened with, and closes it.
-pub fn insert_each(
+pub fn insert_each<L: Lines>(
     device: Device,
     phase: Phase,
     cells: &mut [u64],
-    keys: &[u32],
-    prices: &[u32],
-    workers: &[u32],
-) -> Reply
-    requires { (phase.kind ≡ 1) × Opened (model_of device) (orders_of keys.now prices.now workers.now) phase cells.old }
-    ensures { (result ≡ Reply.Accepted) × (cells.new ≡ priced_layout (length cells.old) label (spread phase.hash (length cells.old))
-        (sent_entries (orders_of keys.now prices.now workers.now) ++ cells.old)) }
+    list: L,
+) -> Result<(), Refusal>
+    requires { (phase.kind ≡ 1) × Opened (model_of device) (L.orders list) phase cells.old }
+    ensures { (result ≡ Ok tt) × (cells.new ≡ priced_layout (length cells.old) label (spread phase.hash (length cells.old))
+        (sent_entries (L.orders list) ++ cells.old)) }
 {
-    let lines = lines_of(keys, prices, workers);
     let mut next = phase;
-    let mut i: usize = 0;
-    while i < lines {
-        let found = line_of(keys, prices, workers, i);
-        let served = serve_order(device, next, cells, found, 0, 0);
+    for i in 0..list.count() {
+        let served = serve_order(device, next, cells, list.line(i), 0, 0);
         next = served.phase;
-        i += 1;
     }
     let closed = close(device, next);
     closed.reply
@@ -73,18 +65,15 @@ pub fn insert_each(
 pub fn acks_of(keys: &[u32], workers: &[u32]) -> usize
     ensures { result ≡ length (acks_of keys.now workers.now) }
 {
-    least(keys.len(), workers.len())
+    keys.len().min(workers.len())
 }
 
-fn found_number(finish: Finish) -> u32
-    ensures { result ≡ found_number finish.ended }
+fn found_number(finish: Option<Ended>) -> u32
+    ensures { result ≡ found_number finish }
 {
-    let ended = finish.ended;
-    match ended {
-        Ended::Nothing => Refusal::Absent.number(),
-        Ended::Finished => Refusal::Absent.number(),
-        Ended::Price(..) => 0,
-        Ended::No => Refusal::Absent.number(),
+    match finish {
+        Some(Ended::Price(..)) => 0,
+        _ => Refusal::Absent.number(),
     }
 }
 
@@ -114,7 +103,7 @@ fn find_one(device: Device, phase: Phase, cells: &mut [u64], key: u32, worker: u
             number: Refusal::NoWorker.number(),
         };
     }
-    let served = serve_order(device, phase, cells, no_line(), worker as usize, key);
+    let served = serve_order(device, phase, cells, None, worker as usize, key);
     let next = served.phase;
     let finish = served.finishes[worker as usize];
     Told {
@@ -132,20 +121,17 @@ pub fn find_each(
     keys: &[u32],
     workers: &[u32],
     answers: &mut [u32],
-) -> Reply
+) -> Result<(), Refusal>
     requires { (phase.kind ≡ 3) × Opened (model_of device) [] phase cells.old × (length (acks_of keys.now workers.now) ≤ length answers.old) }
-    ensures { (result ≡ Reply.Accepted) × (cells.new ≡ cells.old)
+    ensures { (result ≡ Ok tt) × (cells.new ≡ cells.old)
         × (answers.new ≡ ack_numbers phase.crew cells.old (acks_of keys.now workers.now)
         ++ drop (length (acks_of keys.now workers.now)) answers.old) }
 {
-    let acks = acks_of(keys, workers);
     let mut next = phase;
-    let mut i: usize = 0;
-    while i < acks {
+    for i in 0..acks_of(keys, workers) {
         let told = find_one(device, next, cells, keys[i], workers[i]);
         next = told.phase;
         answers[i] = told.number;
-        i += 1;
     }
     let closed = close(device, next);
     closed.reply
@@ -161,22 +147,18 @@ pub fn delete_each(
     keys: &[u32],
     workers: &[u32],
     answers: &[u32],
-) -> Reply
+) -> Result<(), Refusal>
     requires { (phase.kind ≡ 2) × Opened (model_of device) [] phase cells.old × Answered phase.crew (acks_of keys.now workers.now) answers.now }
-    ensures { (result ≡ Reply.Accepted) × (cells.new ≡ priced_layout (length cells.old) label (spread phase.hash (length cells.old))
+    ensures { (result ≡ Ok tt) × (cells.new ≡ priced_layout (length cells.old) label (spread phase.hash (length cells.old))
         (without_labels label (orders_out (acked (acks_of keys.now workers.now) answers.now)) cells.old)) }
 {
-    let acks = acks_of(keys, workers);
     let mut next = phase;
-    let mut i: usize = 0;
-    while i < acks {
-        if answers[i] != 0 {
-            i += 1;
-            continue;
+    for i in 0..acks_of(keys, workers) {
+        let accepted = answers[i] == 0;
+        if accepted {
+            let served = serve_order(device, next, cells, None, workers[i] as usize, keys[i]);
+            next = served.phase;
         }
-        let served = serve_order(device, next, cells, no_line(), workers[i] as usize, keys[i]);
-        next = served.phase;
-        i += 1;
     }
     let closed = close(device, next);
     closed.reply

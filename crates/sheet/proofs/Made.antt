@@ -50,7 +50,6 @@ module _ (s : State) (h : ByCalls s.phase) where
   }
   task-by-calls Command.Close ns = record { made = closed _ h.made; odd = rw (close-hash s) h.odd }
   task-by-calls Command.List ns = h
-  task-by-calls Command.Unknown ns = h
 
   pub line-by-calls : (l : List ℕ) → ByCalls (answer_of s (reading_of l)).state.phase
-  line-by-calls l = line-keeps s l (λ (x : State). ByCalls x.phase) h (λ d _. task-by-calls d (reading_of l).numbers.values)
+  line-by-calls l = line-keeps s l (λ (x : State). ByCalls x.phase) h (λ d ns _. task-by-calls d ns)

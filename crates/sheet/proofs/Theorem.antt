@@ -1,4 +1,5 @@
 -- What specs/Promise promises.
+use Rattle.std.specs.Prelude.{Err}
 use mathlib.Core.Path.{◌≡◌, refl, sym, ap, ◌∙◌}
 use mathlib.Core.Logic.{◌≢◌}
 use mathlib.Core.Bool.{Bool, true, false}
@@ -18,7 +19,6 @@ use Rattle.state.specs.Open.{open_call}
 use Rattle.state.specs.Refusals.{reply_number, if, unless, first_of}
 use Rattle.state.specs.declared.Device.TheVariants.{Gateway}
 use Rattle.state.specs.declared.Refusal.TheVariants.{Size, Crew, Kind, Unsound, Shut, LongList, Gap, Disorder, Even}
-use Rattle.state.specs.declared.Reply.TheVariants.{Refused}
 use Rattle.state.proofs.Model.{gateway-proper}
 use Rattle.lines.specs.Grammar.{reading_of}
 use Rattle.protocol.specs.IsWellFormed.{is_well_formed}
@@ -51,17 +51,17 @@ module _ (s : State) (h : ByCalls s.phase) (shut : s.phase.shut ≡ true) where
 
   shut_turn : (w : ℕ) → w ≤ greatest → Does s (line "turn" (w ∷ [])) s (refused_text 11)
   shut_turn w a =
-      let no : turn_check gateway s.phase s.table w ≡ Refused Shut = rw (good, shut) in
+      let no : turn_check gateway s.phase s.table w ≡ Err Shut = rw (good, shut) in
       rw no at ((in_either s).turn w a)
 
   shut_close : Does s (line "close" []) s (refused_text 11)
   shut_close =
-      let no : (close_call gateway s.phase).reply ≡ Refused Shut = rw (good, shut) in
+      let no : (close_call gateway s.phase).reply ≡ Err Shut = rw (good, shut) in
       (in_either s).close_refused Shut no
 
 -- ---- 16 is for lists of more than 65,536 orders
 other-refusal : (a b c o d e f : Bool)
-    → first_of (unless a Size ∷ unless b Crew ∷ unless c Kind ∷ if o Even ∷ unless d Unsound ∷ if e Gap ∷ if f Disorder ∷ []) ≢ Refused LongList
+    → first_of (unless a Size ∷ unless b Crew ∷ unless c Kind ∷ if o Even ∷ unless d Unsound ∷ if e Gap ∷ if f Disorder ∷ []) ≢ Err LongList
 other-refusal false b c o d e f h = omega (arith, ap reply_number h)
 other-refusal true false c o d e f h = omega (arith, ap reply_number h)
 other-refusal true true false o d e f h = omega (arith, ap reply_number h)
@@ -71,7 +71,7 @@ other-refusal true true true false true true f h = omega (arith, ap reply_number
 other-refusal true true true false true false true h = omega (arith, ap reply_number h)
 other-refusal true true true false true false false h = omega (arith, ap reply_number h)
 
-is-long : (k m : ℕ) (ab : Hash) (t : List ℕ) (os : List Order) → (open_call gateway k m ab t os).reply ≡ Refused LongList → 65536 < length os
+is-long : (k m : ℕ) (ab : Hash) (t : List ℕ) (os : List Order) → (open_call gateway k m ab t os).reply ≡ Err LongList → 65536 < length os
 is-long k m ab t os e =
     let o = opens gateway k m ab t os in
     by-eq k 1

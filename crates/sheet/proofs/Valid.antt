@@ -1,4 +1,5 @@
 -- Lines lead from valid states to valid states.
+use Rattle.std.specs.Prelude.{Ok, Err}
 use mathlib.Core.Path.{◌≡◌, refl, sym, ◌∙◌, ap}
 use mathlib.Core.Bool.{Bool, true, false}
 use mathlib.Core.List.{List, [], ◌∷◌}
@@ -18,18 +19,15 @@ use Rattle.state.specs.Model.{gateway}
 use Rattle.state.proofs.Model.{gateway-proper}
 use Rattle.state.specs.Open.{open_reply}
 use Rattle.state.specs.declared.Phase.{Phase}
-use Rattle.state.specs.declared.Reply.{Reply}
-use Rattle.state.specs.declared.Reply.TheVariants as reply
+use Rattle.state.specs.Replies.{Reply}
 use Rattle.protocol.specs.Calls as call
 use Rattle.protocol.specs.Calls.{order_call}
 use Rattle.text.proofs.Test.{by-test, by-lt}
 use Rattle.lines.specs.declared.Command.{Command}
 use Rattle.lines.specs.declared.Line.{Line}
-use Rattle.dealing.specs.Deal.{run}
 use Rattle.dealing.proofs.Reached.{order_from, turn-from}
 use Rattle.dealing.proofs.Settling.{turn-shut, turn-length, run-reached, run_length}
-use Rattle.fitting.specs.declared.Reading.{Reading}
-use Rattle.fitting.specs.declared.Reading.TheVariants.{Todo}
+use Rattle.std.specs.Prelude.{Option, None, Some}
 use Rattle.fitting.specs.declared.Handling.TheVariants.{Performed, Refused, Bad}
 use Rattle.fitting.specs.declared.Task.{Task}
 use Rattle.fitting.specs.declared.Task.TheVariants.{Perform, Refuse}
@@ -128,15 +126,15 @@ module _ (s : State) (v : Valid s) where
   -- an accepted close leaves a shut phase, whatever items; a refused one leaves all as it was
   closed-kept : (a : Reply) → call.close_reply gateway s.phase ≡ a
       → Valid (calls s.table (items_after s.phase.kind a s.items) (call.closed gateway s.phase a)).state
-  closed-kept reply.Accepted e = record {
+  closed-kept (Ok _) e = record {
     few = v.few;
     items = tested (λ (os : List Order). length os ≤ most_items) (eqb s.phase.kind 1) (λ _. omega arith) (λ _. v.items);
     reached = λ f. never true refl f;
   }
-  closed-kept (reply.Refused r) e = v
+  closed-kept (Err r) e = v
 
   close-kept : Valid (close_task s).state
-  close-kept = by-reply (call.close_reply gateway s.phase) (λ e. rw e (closed-kept reply.Accepted e)) (λ r e. rw e (closed-kept (reply.Refused r) e))
+  close-kept = by-reply (call.close_reply gateway s.phase) (λ e. rw e (closed-kept (Ok tt) e)) (λ r e. rw e (closed-kept (Err r) e))
 
   -- ---- every command, where it is carried out: `cells` and `item` in a shut phase only, and `run` in an open one only
   abbrev Allowed : Command → Type 0
@@ -169,21 +167,20 @@ module _ (s : State) (v : Valid s) where
   command-kept Command.Run ns h = run-kept (run-open h)
   command-kept Command.Close ns h = close-kept
   command-kept Command.List ns h = v
-  command-kept Command.Unknown ns h = v
 
   -- ---- every line
   module _ (l : Line) where
-    reading-kept : (r : Reading) → reading_in s.phase.kind (length s.items) s.phase.shut l ≡ r → Valid (answered s r l.numbers.values).state
-    reading-kept (Todo (Perform c)) e = command-kept c l.numbers.values (performs s.phase.kind (length s.items) s.phase.shut l c e)
-    reading-kept (Todo Refuse) e = v
-    reading-kept Reading.Bad e = v
+    reading-kept : (r : Option Task) → reading_in s.phase.kind (length s.items) s.phase.shut l ≡ r → Valid (answered s r).state
+    reading-kept None e = v
+    reading-kept (Some (Perform c ns)) e = command-kept c ns (performs s.phase.kind (length s.items) s.phase.shut l c ns e).1
+    reading-kept (Some Refuse) e = v
 
     pub valid-kept : Valid (answer_of s l).state
     unfolding answer_of
     valid-kept = reading-kept (reading_in s.phase.kind (length s.items) s.phase.shut l) refl
 
     -- a run is asked for in an open phase only
-    pub allowed : (t : Task) → reading_in s.phase.kind (length s.items) s.phase.shut l ≡ Todo t → RunFinds s t
-    allowed t e q =
-        let up = run-open (performs s.phase.kind (length s.items) s.phase.shut l Command.Run (e ∙ ap (λ (x : Task). Todo x) q)) in
+    pub allowed : (t : Task) → reading_in s.phase.kind (length s.items) s.phase.shut l ≡ Some t → RunFinds s t
+    allowed t e ns q =
+        let up = run-open (performs s.phase.kind (length s.items) s.phase.shut l Command.Run ns (e ∙ ap Some q)).1 in
         (v.reached up, up)

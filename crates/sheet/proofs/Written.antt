@@ -1,12 +1,10 @@
 -- Lines as they are written: what is read of each, and which lines are in none of the forms.
 use mathlib.Core.Path.{◌≡◌, refl, sym, ap, ◌∙◌}
 use mathlib.Core.Logic.{inl, inr}
-use mathlib.Core.Bool.{true}
 use mathlib.Core.List.{List, [], ◌∷◌, ◌++◌, map, append-nil}
 use Prim.Native.Nat.{ℕ, zero, suc, ◌≤◌}
 use Prim.Native.String.{String}
 use native.Mathlib.Omega.{arith}
-use borrow.Author.Tests.{eqb-true}
 use lib.Dec.{eqb}
 use lib.ListN.{length, get_or, take}
 use Rattle.text.specs.Bytes.{bytes_of, byte_at}
@@ -14,8 +12,10 @@ use Rattle.text.specs.Digits.{digits_of}
 use Rattle.text.specs.Fields.{first_field, joined}
 use Rattle.text.proofs.Bytes.{byte-here, byte-later}
 use Rattle.text.proofs.Fields.{first_field_lem, first-here, first-later, first-whole, joined-fields}
-use Rattle.text.proofs.Test.{by-test, both_true}
-use Rattle.lines.specs.Grammar.{word_of, known, most_numbers, padded, numbered, reading_of}
+use Rattle.std.specs.Prelude.{Option, None, Some, IsSome, is_some}
+use Rattle.std.proofs.lemmas.Option.{same_Some}
+use Rattle.text.proofs.Test.{by-test}
+use Rattle.lines.specs.Grammar.{word_of, most_numbers, padded, numbered, reading_of}
 use Rattle.lines.specs.Promise.{Says}
 use Rattle.lines.specs.Text.{numbers_in, Readable}
 use Rattle.lines.specs.declared.Command.{Command}
@@ -23,8 +23,9 @@ use Rattle.lines.specs.declared.Line.{Line}
 use Rattle.lines.specs.declared.Numbers.{Numbers}
 use Rattle.lines.proofs.Lists.{numbers-in}
 use Rattle.lines.proofs.Theorem.{lines-promise}
-use Rattle.lines.proofs.Words.{not-unknown, tabless-word}
-use Rattle.fitting.specs.Fitting.{row_of, fits_row}
+use Rattle.lines.proofs.Words.{by-option, tabless-word}
+use Rattle.fitting.specs.Fitting.{row_of, taken_by}
+use Rattle.fitting.proofs.Fitting.{taken-parts}
 use Rattle.sheet.specs.Promise.{line, greatest, InRange, Form, form, numbers_text, FirstIs, WrittenIn, Unreadable}
 
 -- ---- the form of a command in a shift of kind k, whatever number c of items is kept
@@ -37,7 +38,6 @@ name_of Command.Turn = "turn"
 name_of Command.Run = "run"
 name_of Command.Close = "close"
 name_of Command.List = "list"
-name_of Command.Unknown = ""
 
 abbrev pub form_of : (k c : ℕ) → Command → Form
 form_of k c d = form (name_of d) (row_of k c d).takes
@@ -52,19 +52,17 @@ same_word Command.Turn = refl
 same_word Command.Run = refl
 same_word Command.Close = refl
 same_word Command.List = refl
-same_word Command.Unknown = refl
 
 -- an unreadable line is not in it
-no-form : (k c : ℕ) (d : Command) (l : List ℕ) → known d ≡ true → Unreadable k l → WrittenIn (form_of k c d) l → ⊥
-no-form k c Command.Cells l is u = u.0
-no-form k c Command.Open l is u = u.1.0
-no-form k c Command.Item l is u = u.1.1.0
-no-form k c Command.Order l is u = u.1.1.1.0
-no-form k c Command.Turn l is u = u.1.1.1.1.0
-no-form k c Command.Run l is u = u.1.1.1.1.1.0
-no-form k c Command.Close l is u = u.1.1.1.1.1.1.0
-no-form k c Command.List l is u = u.1.1.1.1.1.1.1.0
-no-form k c Command.Unknown l is u = absurd (not-unknown is refl)
+no-form : (k c : ℕ) (d : Command) (l : List ℕ) → Unreadable k l → WrittenIn (form_of k c d) l → ⊥
+no-form k c Command.Cells l u = u.0
+no-form k c Command.Open l u = u.1.0
+no-form k c Command.Item l u = u.1.1.0
+no-form k c Command.Order l u = u.1.1.1.0
+no-form k c Command.Turn l u = u.1.1.1.1.0
+no-form k c Command.Run l u = u.1.1.1.1.1.0
+no-form k c Command.Close l u = u.1.1.1.1.1.1.0
+no-form k c Command.List l u = u.1.1.1.1.1.1.1.0
 
 -- ---- what is read of a line in a form
 pub line-joined : (word : List ℕ) (ns : List ℕ) → word ++ numbers_text ns ≡ joined (word ∷ map digits_of ns)
@@ -78,13 +76,13 @@ in-range (n ∷ ns) r zero = r.0
 in-range (n ∷ ns) r (suc i) = in-range ns r.1 i
 
 abbrev pub line_with : Command → List ℕ → Line
-line_with c ns = record { command = c; numbers = numbered ns }
+line_with c ns = record { command = Some c; numbers = Some (numbered ns) }
 
-pub read-line : (c : Command) (ns : List ℕ) → known c ≡ true → length ns ≤ most_numbers → InRange ns
+pub read-line : (c : Command) (ns : List ℕ) → length ns ≤ most_numbers → InRange ns
     → reading_of (line (name_of c) ns) ≡ line_with c ns
-read-line c ns k few r =
+read-line c ns few r =
     let e : take (length ns) (padded ns) ≡ ns = numbers-in ns in
-    let readable : Readable (line_with c ns) = record { command = k; few = few; range = rw e (in-range ns r); zeros = rw e } in
+    let readable : Readable (line_with c ns) = record { command = refl; few = rw e few; range = rw e (in-range ns r); zeros = rw e } in
     rw (same_word, line-joined) (rw e at (lines-promise.read_back (line_with c ns) readable))
 
 -- ---- and back: a line whose numbers fit its command is in the command's form
@@ -96,23 +94,23 @@ module _ (l : List ℕ) where
   abbrev read : Line
   read = reading_of l
 
-  pub fits-form : (k c : ℕ) → fits_row (row_of k c read.command) read.numbers ≡ true
-      → (known read.command ≡ true) × WrittenIn (form_of k c read.command) l
-  fits-form k c f =
-      let (is, many) = both_true read.numbers.readable (eqb read.numbers.count (row_of k c read.command).takes) f in
-      let readable : Readable read = (lines-promise.reading l).readable is in
-      let count : read.numbers.count ≡ (row_of k c read.command).takes = eqb-true _ _ many in (
-        readable.command,
-        record {
-          numbers = numbers_in read;
-          count = sym (ap (λ (x : Numbers). x.count) readable.zeros) ∙ count;
-          range = range-of (numbers_in read) readable.range;
-          text = sym ((lines-promise.reading l).canonical is) ∙ rw (same_word, line-joined);
-        },
-      )
+  pub fits-form : (k c : ℕ) (d : Command) → read.command ≡ Some d → (vs : List ℕ) → taken_by (row_of k c d) read.numbers ≡ Some vs → WrittenIn (form_of k c d) l
+  fits-form k c d is vs f =
+      let (n, q, count, _) = taken-parts (row_of k c d) read.numbers vs f in
+      let some : IsSome read.numbers = ap (λ (o : Option Numbers). is_some o) q in
+      let readable : Readable read = (lines-promise.reading l).readable some in
+      let same : n ≡ numbered (numbers_in read) = same_Some _ _ (sym q ∙ readable.zeros) in
+      record {
+        numbers = numbers_in read;
+        count = ap (λ (x : Numbers). x.count) (sym same) ∙ count;
+        range = range-of (numbers_in read) readable.range;
+        text = sym ((lines-promise.reading l).canonical some) ∙ rw (is, same_word, line-joined);
+      }
 
-  pub unreadable-fits : (k c : ℕ) → Unreadable k l → fits_row (row_of k c read.command) read.numbers ≡ true → ⊥
-  unreadable-fits k c u f = let (is, written) = fits-form k c f in no-form k c read.command l is u written
+  pub unreadable-fits : (k c : ℕ) → Unreadable k l → (d : Command) → read.command ≡ Some d → taken_by (row_of k c d) read.numbers ≡ None
+  unreadable-fits k c u d is = by-option (taken_by (row_of k c d) read.numbers)
+      (λ vs f. absurd (no-form k c d l u (fits-form k c d is vs f)))
+      (λ e. e)
 
 -- ---- the first field says the command
 -- a word without a tab is cut off at the tab behind it
@@ -136,14 +134,14 @@ is-first f l (g ∷ fs) e = inr (joined (g ∷ fs), e)
 pub order-first : (ns : List ℕ) → FirstIs (bytes_of "order") (line "order" ns)
 order-first ns = is-first (bytes_of "order") (line "order" ns) (map digits_of ns) (line-joined (bytes_of "order") ns)
 
-module _ (l : List ℕ) (c : Command) (is : known c ≡ true) where
+module _ (l : List ℕ) (c : Command) where
   said : Says (first_field l) (reading_of l).command
   said = (lines-promise.reading l).command (first_field l) (first_field_lem l).0 (first_field_lem l).1
 
-  pub first_says : FirstIs (bytes_of (name_of c)) l → (reading_of l).command ≡ c
-  first_says e = said.says c is (first-is (word_of c) l (tabless-word c) (rw same_word at e))
+  pub first_says : FirstIs (bytes_of (name_of c)) l → (reading_of l).command ≡ Some c
+  first_says e = said.says c (first-is (word_of c) l (tabless-word c) (rw same_word at e))
 
-  pub says_first : (reading_of l).command ≡ c → FirstIs (bytes_of (name_of c)) l
+  pub says_first : (reading_of l).command ≡ Some c → FirstIs (bytes_of (name_of c)) l
   says_first e =
-      let w : first_field l ≡ word_of c = said.word (λ u. not-unknown is (sym e ∙ u)) ∙ ap word_of e in
+      let w : first_field l ≡ word_of c = said.word c e in
       rw (same_word, ← w) (is-first (first_field l) l (first_field_lem l).0 (sym (joined-fields l) ∙ ap joined (first_field_lem l).1))

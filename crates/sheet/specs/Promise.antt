@@ -1,6 +1,6 @@
 -- What is promised of each line of a shift sheet: from its bytes to the state behind it and the bytes printed behind its number, in document 01's words
 -- ("The shift sheet") and in those of document 02, points 2 (`item`, `order`) and 6 (`open`, `list`). Proved in proofs/Theorem.
-use Rattle.std.specs.Prelude.{◌≡◌, ◌≢◌, ◌⊎◌, true, false, cond, List, [], ◌∷◌, ◌++◌, ℕ, zero, suc, ◌≤◌, ◌<◌, eqb, length, get_or, replicate}
+use Rattle.std.specs.Prelude.{◌≡◌, ◌≢◌, ◌⊎◌, true, false, cond, List, [], ◌∷◌, ◌++◌, ℕ, zero, suc, ◌≤◌, ◌<◌, eqb, length, get_or, replicate, Option, Some, None, Ok, Err}
 use Prim.Native.String.{String}
 use Rattle.homes.specs.Homes.{hash_of}
 use Rattle.prices.specs.Contents.{label, price}
@@ -15,12 +15,10 @@ use Rattle.state.specs.declared.Phase.{Phase}
 use Rattle.state.specs.declared.Refusal.{Refusal}
 use Rattle.state.specs.declared.Refusal.TheVariants.{Shut, LongList, Even}
 use Rattle.state.specs.declared.Replied.{Replied}
-use Rattle.state.specs.declared.Reply.{Reply}
-use Rattle.state.specs.declared.Reply.TheVariants.{Accepted, Refused}
+use Rattle.state.specs.Replies.{Reply}
 use Rattle.tables.specs.Calls.{check_call}
 use Rattle.protocol.specs.Calls.{close_call, order_call, turn_call, turn_table}
-use Rattle.protocol.specs.declared.TurnReply.{TurnReply}
-use Rattle.protocol.specs.declared.TurnReply.TheVariants as turn
+use Rattle.protocol.specs.Replies.{TurnReply}
 use Rattle.text.specs.Bytes.{bytes_of}
 use Rattle.text.specs.Digits.{digits_of}
 use Rattle.lines.specs.Grammar.{reading_of}
@@ -28,7 +26,6 @@ use Rattle.dealing.specs.Deal as dealing
 use Rattle.dealing.specs.Deal.{unfinished}
 use Rattle.dealing.specs.Promise.{Runs, Tells}
 use Rattle.dealing.specs.declared.Ended.{Ended}
-use Rattle.dealing.specs.declared.Finish.{Finish}
 use Rattle.sheet.specs.Replay.{State, blank, answer_of}
 use Rattle.sheet.specs.Valid.{Valid, ByCalls}
 
@@ -95,24 +92,24 @@ abbrev pub refused_text : ℕ → List ℕ
 refused_text n = bytes_of "\trefused\t" ++ digits_of n
 
 abbrev pub reply_text : Reply → List ℕ
-reply_text Accepted = bytes_of "\tok"
-reply_text (Refused r) = refused_text (number_of r)
+reply_text (Ok _) = bytes_of "\tok"
+reply_text (Err r) = refused_text (number_of r)
 
 -- of a turn: went on, finished (the price or no of a look-up), or idle
 abbrev pub turn_text : TurnReply → List ℕ
-turn_text (turn.Answered answer.WentOn) = bytes_of "\ton"
-turn_text (turn.Answered answer.Finished) = bytes_of "\tdone"
-turn_text (turn.Answered (answer.Price q)) = numbers_text (q ∷ [])
-turn_text (turn.Answered answer.No) = bytes_of "\tno"
-turn_text (turn.Answered answer.Idle) = bytes_of "\tidle"
-turn_text (turn.Refused r) = refused_text (number_of r)
+turn_text (Ok answer.WentOn) = bytes_of "\ton"
+turn_text (Ok answer.Finished) = bytes_of "\tdone"
+turn_text (Ok (answer.Price q)) = numbers_text (q ∷ [])
+turn_text (Ok answer.No) = bytes_of "\tno"
+turn_text (Ok answer.Idle) = bytes_of "\tidle"
+turn_text (Err r) = refused_text (number_of r)
 
 -- of a worker after a run: nothing has ended, or its finish
-abbrev pub end_text : Ended → List ℕ
-end_text Ended.Nothing = bytes_of "\t-"
-end_text Ended.Finished = bytes_of "\tdone"
-end_text (Ended.Price q) = numbers_text (q ∷ [])
-end_text Ended.No = bytes_of "\tno"
+abbrev pub end_text : Option Ended → List ℕ
+end_text None = bytes_of "\t-"
+end_text (Some Ended.Finished) = bytes_of "\tdone"
+end_text (Some (Ended.Price q)) = numbers_text (q ∷ [])
+end_text (Some Ended.No) = bytes_of "\tno"
 
 -- one field a worker: of workers 0, 1 and so on, m in all
 abbrev pub workers_text : ℕ → (ℕ → List ℕ) → List ℕ
@@ -120,8 +117,8 @@ workers_text zero text = []
 workers_text (suc m) text = workers_text m text ++ text m
 
 -- how worker w of these finished
-abbrev pub finish_text : List Finish → ℕ → List ℕ
-finish_text fs w = end_text (get_or fs w unfinished).ended
+abbrev pub finish_text : List (Option Ended) → ℕ → List ℕ
+finish_text fs w = end_text (get_or fs w unfinished)
 
 -- each label followed by its price
 abbrev pub priced_text : List ℕ → List ℕ
@@ -165,12 +162,12 @@ pub record InShut (s : State) : Type 0 where
   -- past 1,024 items it is `bad`
   pub item_full : 1024 ≤ length s.items → (l : List ℕ) → FirstIs (bytes_of "item") l → Bad s l
   -- `open` kind count a b: the opening is lent the items, and whatever it answers they are kept; a refused one changes nothing
-  pub opening : (k m a b : ℕ) → k ≤ greatest → m ≤ greatest → a ≤ greatest → b ≤ greatest → (opening_of s k m a b).reply ≡ Accepted
+  pub opening : (k m a b : ℕ) → k ≤ greatest → m ≤ greatest → a ≤ greatest → b ≤ greatest → (opening_of s k m a b).reply ≡ Ok tt
       → Replies s (line "open" (k ∷ m ∷ a ∷ b ∷ [])) (opening_of s k m a b)
-  pub opening_refused : (k m a b : ℕ) → k ≤ greatest → m ≤ greatest → a ≤ greatest → b ≤ greatest → (r : Refusal) → (opening_of s k m a b).reply ≡ Refused r
+  pub opening_refused : (k m a b : ℕ) → k ≤ greatest → m ≤ greatest → a ≤ greatest → b ≤ greatest → (r : Refusal) → (opening_of s k m a b).reply ≡ Err r
       → Does s (line "open" (k ∷ m ∷ a ∷ b ∷ [])) s (refused_text (number_of r))
   -- an accepted one leaves its a and b
-  pub opening_hash : (k m a b : ℕ) → (opening_of s k m a b).reply ≡ Accepted → (opening_of s k m a b).phase.hash ≡ hash_of a b
+  pub opening_hash : (k m a b : ℕ) → (opening_of s k m a b).reply ≡ Ok tt → (opening_of s k m a b).phase.hash ≡ hash_of a b
   -- in a shut shift `run` and every line whose first field is `order` answer 11
   pub run : Does s (line "run" []) s (refused_text 11)
   pub order : (l : List ℕ) → FirstIs (bytes_of "order") l → Does s l s (refused_text 11)
@@ -205,12 +202,12 @@ pub record InEither (s : State) : Type 0 where
       Does s (line "turn" (w ∷ [])) (state_with r.phase (turn_table gateway s.phase s.table w) s.items) (turn_text r.reply)
   -- `close`, which clears the items exactly if it is accepted in a put-in shift
   pub close : s.phase.kind ≢ 1 → Replies s (line "close" []) (close_call gateway s.phase)
-  pub close_refused : (r : Refusal) → (close_call gateway s.phase).reply ≡ Refused r → Does s (line "close" []) s (refused_text (number_of r))
-  pub close_clears : s.phase.kind ≡ 1 → (close_call gateway s.phase).reply ≡ Accepted
+  pub close_refused : (r : Refusal) → (close_call gateway s.phase).reply ≡ Err r → Does s (line "close" []) s (refused_text (number_of r))
+  pub close_clears : s.phase.kind ≡ 1 → (close_call gateway s.phase).reply ≡ Ok tt
       → Does s (line "close" []) (state_with (close_call gateway s.phase).phase s.table []) (bytes_of "\tok")
   -- `list` gives the count, then each label followed by its price, where the check by the record's a and b passes the table, and else the check's refusal
-  pub list : check_call gateway s.phase.hash s.table ≡ Accepted → Does s (line "list" []) s (list_text (entries_of s.table))
-  pub list_refused : (r : Refusal) → check_call gateway s.phase.hash s.table ≡ Refused r → Does s (line "list" []) s (refused_text (number_of r))
+  pub list : check_call gateway s.phase.hash s.table ≡ Ok tt → Does s (line "list" []) s (list_text (entries_of s.table))
+  pub list_refused : (r : Refusal) → check_call gateway s.phase.hash s.table ≡ Err r → Does s (line "list" []) s (refused_text (number_of r))
   -- which are those of the last accepted opening: every line but an opening keeps them
   pub keeps_hash : (l : List ℕ) → (FirstIs (bytes_of "open") l → ⊥) → (answer_of s (reading_of l)).state.phase.hash ≡ s.phase.hash
   -- every line but `item` and `close` keeps the items
@@ -220,9 +217,9 @@ pub record InEither (s : State) : Type 0 where
 pub record SheetPromise : Type 0 where
   -- before `open` the shift counts as shut; before `cells` the table has length 0
   pub before_open : blank.phase.shut ≡ true
-  pub before_order : (os : List Order) (i w v : ℕ) → (order_call gateway blank.phase os i w v).reply ≡ Refused Shut
-  pub before_turn : (t : List ℕ) (w : ℕ) → (turn_call gateway blank.phase t w).reply ≡ turn.Refused Shut
-  pub before_close : (close_call gateway blank.phase).reply ≡ Refused Shut
+  pub before_order : (os : List Order) (i w v : ℕ) → (order_call gateway blank.phase os i w v).reply ≡ Err Shut
+  pub before_turn : (t : List ℕ) (w : ℕ) → (turn_call gateway blank.phase t w).reply ≡ Err Shut
+  pub before_close : (close_call gateway blank.phase).reply ≡ Err Shut
   pub before_cells : length blank.table ≡ 0
   -- there are no items, and a is 1 and b is 0
   pub before_items : blank.items ≡ []
@@ -240,9 +237,9 @@ pub record SheetPromise : Type 0 where
   pub crew : (s : State) → Valid s → s.phase.shut ≡ false → (1 ≤ s.phase.crew) × (s.phase.crew ≤ 16)
   -- and at most 1,024 items, so that no opening answers 16
   pub few_items : (s : State) → Valid s → length s.items ≤ 1024
-  pub never_long : (s : State) → Valid s → (k m a b : ℕ) → (opening_of s k m a b).reply ≢ Refused LongList
+  pub never_long : (s : State) → Valid s → (k m a b : ℕ) → (opening_of s k m a b).reply ≢ Err LongList
   -- there a turn that answers a price tells the one at which the label looked up stands in the table, and where one answers no it stands at none
-  pub told : (s : State) → Valid s → s.phase.shut ≡ false → (w : ℕ) (a : Answer) → (turn_call gateway s.phase s.table w).reply ≡ turn.Answered a
+  pub told : (s : State) → Valid s → s.phase.shut ≡ false → (w : ℕ) (a : Answer) → (turn_call gateway s.phase s.table w).reply ≡ Ok a
       → Tells s.phase s.table w a
   -- and a run leaves all workers idle, with `-` exactly for those idle before, else their finish
   pub ran : (s : State) → Valid s → s.phase.shut ≡ false → Runs gateway s.phase s.table (dealing.run gateway s.phase s.table)
@@ -250,6 +247,6 @@ pub record SheetPromise : Type 0 where
   -- and change nothing, whatever shift was the last
   pub by_calls_first : ByCalls blank.phase
   pub by_calls : (s : State) → ByCalls s.phase → (l : List ℕ) → ByCalls (answer_of s (reading_of l)).state.phase
-  pub never_even : (s : State) → ByCalls s.phase → check_call gateway s.phase.hash s.table ≢ Refused Even
+  pub never_even : (s : State) → ByCalls s.phase → check_call gateway s.phase.hash s.table ≢ Err Even
   pub shut_turn : (s : State) → ByCalls s.phase → s.phase.shut ≡ true → (w : ℕ) → w ≤ greatest → Does s (line "turn" (w ∷ [])) s (refused_text 11)
   pub shut_close : (s : State) → ByCalls s.phase → s.phase.shut ≡ true → Does s (line "close" []) s (refused_text 11)

@@ -1,5 +1,5 @@
 -- The states of a replay that lines lead to.
-use Rattle.std.specs.Prelude.{◌≡◌, false, ◌≤◌, length}
+use Rattle.std.specs.Prelude.{◌≡◌, false, List, ℕ, ◌≤◌, length}
 use Rattle.homes.specs.Promise.{Odd}
 use Rattle.state.specs.Model.{gateway}
 use Rattle.state.specs.declared.Phase.{Phase}
@@ -25,4 +25,4 @@ pub record ByCalls (p : Phase) : Type 0 where
 
 -- what the line `run` must find: an open phase that calls have led to
 abbrev pub RunFinds : State → Task → Type 0
-RunFinds s t = t ≡ Perform Command.Run → Reached gateway s.items s.phase s.table × (s.phase.shut ≡ false)
+RunFinds s t = (ns : List ℕ) → t ≡ Perform Command.Run ns → Reached gateway s.items s.phase s.table × (s.phase.shut ≡ false)

@@ -17,7 +17,7 @@ use Rattle.text.specs.Digits.{digits_within, digits_of}
 use Rattle.text.specs.Bytes.{bytes_of, same}
 use Rattle.text.specs.Fields.{fields_of}
 use Rattle.text.specs.Numbers.{digits, leads, value_from, is_number}
-use Rattle.lines.specs.Grammar.{command_in, are_numbers, numbers_of, reading_of}
+use Rattle.lines.specs.Grammar.{command_of, are_numbers, numbers_of, reading_of}
 use Rattle.dealing.specs.Deal.{deal_to, deal, laps}
 use Rattle.sheet.specs.Replay.{answer_of}
 use Rattle.feed.specs.Whole.{lines_of, printed_from, output_of}
@@ -30,7 +30,7 @@ all-print (s ∷ ss) h = (ap (λ (l : List (List ℕ)). get_or l 0 []) h, all-pr
 
 pub sheets-promise : SheetsPromise
 unfolding
-    bytes_of output_of lines_of printed_from answer_of reading_of command_in same numbers_of are_numbers is_number value_from leads digits fields_of digits_of digits_within
+    bytes_of output_of lines_of printed_from answer_of reading_of command_of same numbers_of are_numbers is_number value_from leads digits fields_of digits_of digits_within
     laps deal deal_to is_well_formed rule settled absorbed insert_step find_step delete_step fits narrow
     meets_empty meets_key first all some dist probe prev wrap place_of count tally ones line_fault lines_fault into descending
 sheets-promise = all-print sheets refl

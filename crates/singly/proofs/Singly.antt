@@ -6,13 +6,11 @@ use Prim.Native.Nat.{ℕ, ◌+◌, ◌<◌}
 use native.Mathlib.Omega.{arith}
 use lib.ListN.{length, get_or, set, length-set}
 use borrow.Author.Tests.{eq-eqb, ne_eqb}
-use Rattle.orders.specs.Orders.{line_at}
-use Rattle.orders.specs.declared.Found.{Found}
 use Rattle.orders.specs.declared.Order.{Order}
 use Rattle.state.specs.Model.{Model}
 use Rattle.state.specs.declared.Phase.{Phase}
 use Rattle.state.specs.declared.Replied.{Replied}
-use Rattle.protocol.specs.Calls.{close_call, order_found, turn_call, turn_table}
+use Rattle.protocol.specs.Calls.{close_call, order_call, turn_call, turn_table}
 use Rattle.protocol.specs.declared.Turned.{Turned}
 use Rattle.numbered.specs.Numbers.{turn_answer, reply_answer}
 use Rattle.numbered.specs.Lists.{call_of, calls_of, Applied, Applies, RunsFrom}
@@ -52,11 +50,9 @@ module _ {M : Model} {os : List Order} {ops lines workers keys : List ℕ} {p₀
         same-answers = length-set out i r.answer ∙ h.same-answers;
       }
 
-  pub ordered-next : op ≡ 1 → {l : Found} {r : Replied} {a : ℕ} → l ≡ line_at os line → r ≡ order_found M p l worker key → a ≡ reply_answer r.reply
+  pub ordered-next : op ≡ 1 → {r : Replied} {a : ℕ} → r ≡ order_call M p os line worker key → a ≡ reply_answer r.reply
       → Singly M os ops lines workers keys p₀ t₀ out₀ (i + 1) r.phase t (set out i a)
-  ordered-next is found gives number =
-      let call = gives ∙ ap (λ (l : Found). order_found M p l worker key) found in
-      one_more _ t (rw (eq-eqb op 1 is) (order-applies M os p t line worker key _ _ call number)) refl
+  ordered-next is gives number = one_more _ t (rw (eq-eqb op 1 is) (order-applies M os p t line worker key _ _ gives number)) refl
 
   pub turned-next : op ≡ 2 → {r : Turned} {t' : List ℕ} {a : ℕ} → (r ≡ turn_call M p t worker) × (t' ≡ turn_table M p t worker)
       → length t' ≡ length t → a ≡ turn_answer r.reply → Singly M os ops lines workers keys p₀ t₀ out₀ (i + 1) r.phase t' (set out i a)

@@ -8,13 +8,14 @@ use native.Mathlib.Omega.{arith}
 use lib.Dec.{eqb}
 use lib.ListN.{length, get_or}
 use borrow.Author.Tests.{eq-eqb, ne_eqb, lt-ltb, le-ltb}
+use Rattle.std.specs.Prelude.{Ok, Err}
 use Rattle.ring.proofs.Tests.{true-says, by-test, not_both}
 use Rattle.ring.specs.Each.{all, some}
 use Rattle.ring.proofs.Each.{First, first-is, first_of, all-at}
 use Rattle.prices.specs.Contents.{label, cell_ok}
 use Rattle.prices.specs.Priced.{labels}
 use Rattle.flaws.specs.Flaws.{breaks, lowest, deciding, meets_empty, meets_key}
-use Rattle.soundness.specs.declared.Flaw.TheVariants.{None, Cells, Gap, Disorder}
+use Rattle.soundness.specs.declared.Flaw.TheVariants.{Gap, Disorder}
 use Rattle.soundness.specs.Faulty.{is_faulty, first_faulty, first_met}
 use Rattle.soundness.specs.Flaw.{flaw_of}
 use Rattle.soundness.proofs.Passing.{all-ends}
@@ -35,13 +36,7 @@ module _ (home : ℕ → ℕ) (t : List ℕ) where
   abbrev all_ok : Bool
   all_ok = all ok_at n
 
-  pub is-full : some_empty ≡ false → Cells ≡ flaw_of home t
-  is-full e = rw e
-
   module _ (some_is : some_empty ≡ true) where
-    pub not-ok : all_ok ≡ false → Cells ≡ flaw_of home t
-    not-ok e = rw (some_is, e)
-
     module _ {j : ℕ} (is : j ≡ first_faulty home t) where
       found : First (is_faulty home t) n j
       found = rw is (first-is (is_faulty home t) n)
@@ -63,7 +58,7 @@ module _ (home : ℕ → ℕ) (t : List ℕ) where
         found = λ l. sym (by_order j (ok j (omega arith) l)) ∙ found.found l;
       })
 
-      pub is-sound : j ≡ n → None ≡ flaw_of home t
+      pub is-sound : j ≡ n → Ok tt ≡ flaw_of home t
       unfolding meets_empty meets_key
       is-sound e =
           let ok : (i : ℕ) → i < j → ok_at i ≡ true = λ i l. right i (found.before i l) in
@@ -82,10 +77,10 @@ module _ (home : ℕ → ℕ) (t : List ℕ) where
           deciding-is : c ≡ deciding home t
           deciding-is = em ∙ ap (first_met home t) same
 
-          pub is-gap : c ≡ 0 → Gap ≡ flaw_of home t
+          pub is-gap : c ≡ 0 → Err Gap ≡ flaw_of home t
           unfolding meets_empty
           is-gap z = rw (some_is, ok, lt-ltb (lowest n home keys) n broken, eq-eqb (deciding home t) 0 (sym deciding-is ∙ z))
 
-          pub is-disorder : c ≢ 0 → Disorder ≡ flaw_of home t
+          pub is-disorder : c ≢ 0 → Err Disorder ≡ flaw_of home t
           unfolding meets_empty meets_key
           is-disorder z = rw (some_is, ok, lt-ltb (lowest n home keys) n broken, ne_eqb (deciding home t) 0 (λ q. z (deciding-is ∙ q)))

@@ -15,11 +15,10 @@ ghost use Rattle.soundness.specs.Links.{Linked, Searched, Skipped};
 use homes::Hash;
 use prices::{HIGHEST, PRICES};
 
-// What is wrong with a table: nothing; it has no empty cell, or a cell that is wrong by itself; or in the lowest-numbered cell whose label breaks the order,
-// that label meets an empty cell first, or a label.
+// What is wrong with a table: it has no empty cell, or a cell that is wrong by itself; or in the lowest-numbered cell whose label breaks the order, that label
+// meets an empty cell first, or a label.
 #[derive(Clone, Copy)]
 pub enum Flaw {
-    None,
     Cells,
     Gap,
     Disorder,
@@ -29,17 +28,7 @@ pub enum Flaw {
 fn cell_ok(content: u64) -> bool
     ensures { result ≡ cell_ok content }
 {
-    if content == 0 {
-        return true;
-    }
-    if content / PRICES == 0 {
-        return false;
-    }
-    if 1 <= content % PRICES {
-        content % PRICES <= HIGHEST
-    } else {
-        false
-    }
+    content == 0 || content / PRICES != 0 && 1 <= content % PRICES && content % PRICES <= HIGHEST
 }
 
 // The label in a cell.
@@ -183,47 +172,33 @@ fn first_met(hash: Hash, cells: &[u64], j: u32) -> u64
 fn some_empty(cells: &[u64]) -> bool
     ensures { result ≡ some (λ j. eqb (get_or cells.now j 0) 0) (length cells.now) }
 {
-    let mut j: usize = 0;
-    while j < cells.len() {
-        if cells[j] == 0 {
-            return true;
-        }
-        j += 1;
-    }
-    false
+    cells.contains(&0)
 }
 
 fn all_ok(cells: &[u64]) -> bool
     ensures { result ≡ all (λ j. cell_ok (get_or cells.now j 0)) (length cells.now) }
 {
-    let mut j: usize = 0;
-    while j < cells.len() {
-        if !cell_ok(cells[j]) {
-            return false;
-        }
-        j += 1;
-    }
-    true
+    cells.iter().all(|content| cell_ok(*content))
 }
 
 // Why a table is unsound by its hash function, if it is. The search ends at a faulty cell: all cells are then tested by themselves before its label
 // is asked.
-pub fn flaw_of(hash: Hash, cells: &[u64]) -> Flaw
+pub fn flaw_of(hash: Hash, cells: &[u64]) -> Result<(), Flaw>
     requires { length cells.now ≤ 8192 }
     ensures { result ≡ flaw_of (spread hash (length cells.now)) cells.now }
 {
     if !some_empty(cells) {
-        return Flaw::Cells;
+        return Err(Flaw::Cells);
     }
     let j = first_faulty(hash, cells);
     if j == cells.len() as u32 {
-        return Flaw::None;
+        return Ok(());
     }
     if !all_ok(cells) {
-        return Flaw::Cells;
+        return Err(Flaw::Cells);
     }
     if first_met(hash, cells, j) == 0 {
-        return Flaw::Gap;
+        return Err(Flaw::Gap);
     }
-    Flaw::Disorder
+    Err(Flaw::Disorder)
 }

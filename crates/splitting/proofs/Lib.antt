@@ -1,5 +1,4 @@
 pub mod Ends
 pub mod Parts
 pub mod Places
-pub mod Quoted
 pub mod Scans

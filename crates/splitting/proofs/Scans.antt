@@ -1,13 +1,13 @@
 -- Fields that begin with digits: behind the digits, the field ends or goes on with a byte that is none.
+use Rattle.std.specs.Prelude.{Option, Some, None}
 use mathlib.Core.Path.{◌≡◌, refl, sym, ◌∙◌, ap}
 use mathlib.Core.Bool.{true, false, and-false}
 use mathlib.Core.List.{List, [], ◌∷◌, ◌++◌, append-nil}
-use Prim.Native.Nat.{ℕ, suc, ◌+◌, ◌≤◌, ◌<◌}
+use Prim.Native.Nat.{ℕ, suc, ◌+◌, ◌-◌, ◌≤◌, ◌<◌}
 use native.Mathlib.Omega.{arith}
 use lib.Dec.{eqb}
 use lib.ListN.{length, drop}
 use lib.Seq.{drop-drop}
-use Rattle.text.specs.declared.Number.{Number}
 use Rattle.text.specs.declared.Run.{Run}
 use Rattle.text.specs.Numbers.{digits, is_number, number_of, digits_in, leading, run_at}
 use Rattle.text.proofs.Test.{by-test}
@@ -17,12 +17,10 @@ use Rattle.rfc4180.specs.Grammar.{TextData}
 use Rattle.rfc4180.specs.Reader.{is_text, is_inside, Scan, push, skip, plain_of, inside_of}
 use Rattle.rfc4180.proofs.Bytes.{is-text, text-no-quote, text-inside}
 use Rattle.rfc4180.proofs.Laws.{plain-nil, plain_more, plain-stop, inside-nil, inside-last, inside-close, inside-two, inside-break, inside-more}
-use Rattle.splitting.specs.declared.End.{End}
-use Rattle.splitting.specs.declared.Field.{Field}
 use Rattle.splitting.specs.Fields.{end_from, field_from}
 
 -- ---- a byte more in front
-pub end-nothing : (at : ℕ) → end_from at (Scan.found [] 0) ≡ End.At at
+pub end-nothing : (at : ℕ) → end_from at (Scan.found [] 0) ≡ Some at
 end-nothing at = let e : at + 0 ≡ at = omega arith in rw e
 
 pub end-push : (at b : ℕ) (x : Scan) → end_from at (push b x) ≡ end_from (suc at) x
@@ -36,6 +34,10 @@ end-skip at (Scan.found v n) = let e : at + suc n ≡ suc at + n = omega arith i
 pub field_skip : (at : ℕ) (x : Scan) → field_from at (skip x) ≡ field_from (suc at) x
 field_skip at Scan.broken = refl
 field_skip at (Scan.found v n) = let e : at + suc n ≡ suc at + n = omega arith in rw e
+
+-- what a loop keeps that goes over a field: from here on, it ends where it ends from the start
+pub record Going (scan : List ℕ → Scan) (text : List ℕ) (goal : Option ℕ) (at : ℕ) : Type 0 where
+  pub same : end_from at (scan (drop at text)) ≡ goal
 
 -- ---- what is scanned where no digit stands
 -- a scan takes at least k bytes
@@ -141,31 +143,31 @@ module _ {scan : List ℕ → Scan} {k : ℕ} (f : Scanner scan k) where
       (λ z. rw (z s).0 (pushed-nil (scan (b ∷ s))))
 
 -- ---- the end and the number of a field, from those of its digits
-end_on : (at : ℕ) (x : Scan) {end : ℕ} → End.At end ≡ end_from at x → at ≤ end
-end_on at Scan.broken {end} e = let z : ◌≡◌ {A = ℕ} 0 1 = cc in absurd (omega arith)
+end_on : (at : ℕ) (x : Scan) {end : ℕ} → Some end ≡ end_from at x → at ≤ end
+end_on at Scan.broken {end} e = cc
 end_on at (Scan.found v n) {end} e = let q : end ≡ at + n = cc in omega arith
 
-unclosed : (at behind : ℕ) (u : List ℕ) (x : Scan) → End.Broken ≡ end_from behind x → Field.Broken ≡ field_from at (pushed u x)
+unclosed : (at behind : ℕ) (u : List ℕ) (x : Scan) → None ≡ end_from behind x → None ≡ field_from at (pushed u x)
 unfolding pushed
 unclosed at behind u Scan.broken e = refl
-unclosed at behind u (Scan.found v n) e = let z : ◌≡◌ {A = ℕ} 0 1 = cc in absurd (omega arith)
+unclosed at behind u (Scan.found v n) e = cc
 
 not-digits : (u v : List ℕ) → digits v ≡ false → is_number (u ++ v) ≡ false
 not-digits u v d = no-digits (u ++ v) (digits_append u v ∙ rw d (and-false (digits u)))
 
 module _ (k at behind : ℕ) (u : List ℕ) (place : behind ≡ at + length u) {end : ℕ} where
-  longer : {x : Scan} → Behind k x → End.At end ≡ end_from behind x → behind + k < end → Field.Read Number.Unreadable end ≡ field_from at (pushed u x)
+  longer : {x : Scan} → Behind k x → Some end ≡ end_from behind x → behind + k < end → Some (record { number = None; end = end }) ≡ field_from at (pushed u x)
   unfolding pushed
-  longer Behind.broken e h = let z : ◌≡◌ {A = ℕ} 0 1 = cc in absurd (omega arith)
+  longer Behind.broken e h = cc
   longer Behind.nothing e h = let q : end ≡ behind + k = cc in absurd (omega arith)
   longer (Behind.other v n d l) e h =
       let q : end ≡ behind + n = cc in
       let w : end ≡ at + (length u + n) = omega arith in
       rw (not-digits u v d, w)
 
-  digits-only : {x : Scan} → Behind k x → End.At end ≡ end_from behind x → end ≤ behind + k → Field.Read (number_of u) end ≡ field_from at (pushed u x)
+  digits-only : {x : Scan} → Behind k x → Some end ≡ end_from behind x → end ≤ behind + k → Some (record { number = number_of u; end = end }) ≡ field_from at (pushed u x)
   unfolding pushed
-  digits-only Behind.broken e h = let z : ◌≡◌ {A = ℕ} 0 1 = cc in absurd (omega arith)
+  digits-only Behind.broken e h = cc
   digits-only Behind.nothing e h =
       let q : end ≡ behind + k = cc in
       let w : end ≡ at + (length u + k) = omega arith in
@@ -185,18 +187,34 @@ module _ {scan : List ℕ → Scan} {k : ℕ} (f : Scanner scan k) (text : List 
   rest-behind : Behind k (scan (drop r.end text))
   rest-behind = f.behind (drop r.end text) (sym (ap digits_in rest) ∙ run-over (drop at text))
 
-  pub field-broken : End.Broken ≡ end_from r.end (scan (drop r.end text)) → Field.Broken ≡ field_from at (scan (drop at text))
+  pub field-broken : None ≡ end_from r.end (scan (drop r.end text)) → None ≡ field_from at (scan (drop at text))
   field-broken e = unclosed at r.end _ _ e ∙ ap (field_from at) parted
 
-  module _ {end : ℕ} (e : End.At end ≡ end_from r.end (scan (drop r.end text))) where
+  module _ {end : ℕ} (e : Some end ≡ end_from r.end (scan (drop r.end text))) where
     pub field-on : r.end ≤ end
     field-on = end_on r.end (scan (drop r.end text)) e
 
-    pub field-longer : r.end + k < end → Field.Read Number.Unreadable end ≡ field_from at (scan (drop at text))
+    pub field-longer : r.end + k < end → Some (record { number = None; end = end }) ≡ field_from at (scan (drop at text))
     field-longer h = longer k at r.end _ place rest-behind e h ∙ ap (field_from at) parted
 
-    pub field-digits : end ≤ r.end + k → Field.Read r.number end ≡ field_from at (scan (drop at text))
+    pub field-digits : end ≤ r.end + k → Some (record { number = r.number; end = end }) ≡ field_from at (scan (drop at text))
     field-digits h =
-        ap (λ (n : Number). Field.Read n end) (run-parts text at p).0
+        ap (λ (n : Option ℕ). Some (record { number = n; end = end })) (run-parts text at p).0
         ∙ digits-only k at r.end _ place rest-behind e h
         ∙ ap (field_from at) parted
+
+-- ---- the two scans
+module _ (text : List ℕ) (at end : ℕ) (r : Run) (p : r ≡ run_at text at) where
+  pub plain-longer : Some end ≡ end_from r.end (plain_of (drop r.end text)) → r.end < end → Some (record { number = None; end = end }) ≡ field_from at (plain_of (drop at text))
+  plain-longer e h = field-longer plain-scanner text at p e (omega arith)
+
+  pub plain-whole : Some end ≡ end_from r.end (plain_of (drop r.end text)) → end ≤ r.end → Some (record { number = r.number; end = end }) ≡ field_from at (plain_of (drop at text))
+  plain-whole e h = field-digits plain-scanner text at p e (omega arith)
+
+  pub quoted-longer : Some end ≡ end_from r.end (inside_of (drop r.end text)) → 1 < end - r.end → Some (record { number = None; end = end }) ≡ field_from at (inside_of (drop at text))
+  quoted-longer e h = field-longer inside-scanner text at p e (omega arith)
+
+  pub quoted-whole : Some end ≡ end_from r.end (inside_of (drop r.end text)) → end - r.end ≤ 1 → Some (record { number = r.number; end = end }) ≡ field_from at (inside_of (drop at text))
+  quoted-whole e h = field-digits inside-scanner text at p e (omega arith)
+
+pub ruleset field_rules = (plain-longer, plain-whole, quoted-longer, quoted-whole)

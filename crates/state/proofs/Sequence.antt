@@ -1,18 +1,18 @@
 -- Sequences of refusals, one behind the other.
+use Rattle.std.specs.Prelude.{Ok, Err}
 use mathlib.Core.Path.{◌≡◌, refl}
 use mathlib.Core.Bool.{Bool, true, false, cond}
 use mathlib.Core.List.{List, [], ◌∷◌, ◌++◌}
 use Rattle.state.specs.Refusals.{Bar, first_of}
 use Rattle.state.specs.declared.Refusal.{Refusal}
-use Rattle.state.specs.declared.Reply.{Reply}
-use Rattle.state.specs.declared.Reply.TheVariants.{Accepted, Refused}
+use Rattle.state.specs.Replies.{Reply}
 
 -- the first reply if it is a refusal, else the second
 abbrev pub or_else : Reply → Reply → Reply
-or_else Accepted r = r
-or_else (Refused q) r = Refused q
+or_else (Ok _) r = r
+or_else (Err q) r = Err q
 
-settled : (b : Bool) (q : Refusal) (x y r : Reply) → x ≡ or_else y r → cond b (Refused q) x ≡ or_else (cond b (Refused q) y) r
+settled : (b : Bool) (q : Refusal) (x y r : Reply) → x ≡ or_else y r → cond b (Err q) x ≡ or_else (cond b (Err q) y) r
 settled true q x y r e = refl
 settled false q x y r e = e
 

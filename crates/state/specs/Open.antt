@@ -1,5 +1,5 @@
 -- The opening of a phase.
-use Rattle.std.specs.Prelude.{Bool, true, false, cond, List, [], ◌∷◌, ◌++◌, ℕ, leb, ltb, eqb, length, replicate}
+use Rattle.std.specs.Prelude.{Bool, true, false, cond, List, [], ◌∷◌, ◌++◌, ℕ, leb, ltb, eqb, length, replicate, Result, Ok, Err, ⊤}
 use Rattle.layout.specs.Layout.{size}
 use Rattle.homes.specs.Homes.{plain, is_even}
 use Rattle.homes.specs.declared.Hash.{Hash}
@@ -7,21 +7,22 @@ use Rattle.prices.specs.Contents.{label}
 use Rattle.prices.specs.Priced.{labels}
 use Rattle.flaws.specs.Flaws.{is_intact, meets_empty, meets_key}
 use Rattle.orders.specs.Orders.{ordered_keys, lines_fault}
+use Rattle.orders.specs.declared.Fault.{Fault}
 use Rattle.orders.specs.declared.Order.{Order}
 use Rattle.activities.specs.Activities.{idle}
 use Rattle.activities.specs.Kinds.{kind_ok}
 use Rattle.state.specs.Model.{Model, size_ok, crew_ok}
-use Rattle.state.specs.Refusals.{Bar, if, unless, first_of}
+use Rattle.state.specs.Refusals.{Bar, fault_refusal, if, unless, first_of}
 use Rattle.state.specs.declared.Phase.{Phase}
-use Rattle.state.specs.declared.Refusal.TheVariants.{Size, Crew, Kind, Unsound, NoWorker, Blank, Full, WrongPrice, LongList, Gap, Disorder, Even, TestNumber}
+use Rattle.state.specs.declared.Refusal.TheVariants.{Size, Crew, Kind, Unsound, Full, LongList, Gap, Disorder, Even}
 use Rattle.state.specs.declared.Replied.{Replied}
-use Rattle.state.specs.declared.Reply.{Reply}
-use Rattle.state.specs.declared.Reply.TheVariants.{Accepted, Refused}
+use Rattle.state.specs.Replies.{Reply}
 
 -- ---- refusals of the list of orders
--- by the number of what is wrong with a line: 7, 24, 14 or 6
-abbrev pub fault_bars : ℕ → List Bar
-fault_bars fault = if (eqb fault 7) Blank ∷ if (eqb fault 24) TestNumber ∷ if (eqb fault 14) WrongPrice ∷ if (eqb fault 6) NoWorker ∷ []
+-- by what is wrong with a line: 7, 24, 14 or 6
+abbrev pub fault_bars : Result ⊤ Fault → List Bar
+fault_bars (Ok u) = []
+fault_bars (Err fault) = if true (fault_refusal fault) ∷ []
 
 -- of the lines, for a crew of m workers
 abbrev pub line_bars : ℕ → List Order → List Bar
@@ -66,8 +67,8 @@ module _ (M : Model) where
     list_bars os = if (ltb M.most_lines (length os)) LongList ∷ sound_bars ab t ++ line_bars m os ++ if (crowded t os) Full ∷ []
 
     abbrev pub opened : Reply → Replied
-    opened Accepted = record { phase = fresh k (length t) m false ab; reply = Accepted }
-    opened (Refused r) = record { phase = refused_phase; reply = Refused r }
+    opened (Ok _) = record { phase = fresh k (length t) m false ab; reply = Ok tt }
+    opened (Err r) = record { phase = refused_phase; reply = Err r }
 
     module _ (os : List Order) where
       abbrev pub open_bars : List Bar

@@ -15,11 +15,9 @@ pub fn step(kind: u32, hash: Hash, length: u32, activity: Activity, content: u64
     requires { Below length (cells_of activity) }
     ensures { result ≡ rule kind length label (spread hash length) activity content }
 {
-    if kind == 1 {
-        return probing::insert_step(length, activity, content);
+    match kind {
+        1 => probing::insert_step(length, activity, content),
+        2 => deletion::delete_step(hash, length, activity, content),
+        _ => probing::find_step(length, activity, content),
     }
-    if kind == 2 {
-        return deletion::delete_step(hash, length, activity, content);
-    }
-    probing::find_step(length, activity, content)
 }

@@ -1,4 +1,5 @@
 -- The calls' answers, by the tests that lead to them.
+use Rattle.std.specs.Prelude.{Ok, Err}
 use mathlib.Core.Path.{◌≡◌, refl, sym, ap, ◌∙◌}
 use mathlib.Core.Bool.{cond}
 use mathlib.Core.List.{List, [], ◌∷◌}
@@ -17,21 +18,18 @@ use Rattle.state.specs.Refusals.{Bar, if, first_of}
 use Rattle.state.proofs.Sequence.{or_else, first-append}
 use Rattle.state.specs.declared.Refusal.{Refusal}
 use Rattle.state.specs.declared.Refusal.TheVariants.{ShortList}
-use Rattle.state.specs.declared.Reply.{Reply}
-use Rattle.state.specs.declared.Reply.TheVariants.{Accepted, Refused}
-use Rattle.state.specs.declared.Counted.{Counted}
-use Rattle.state.specs.declared.Counted.TheVariants as counted
+use Rattle.state.specs.Replies.{Reply, Counted}
 use Rattle.state.specs.Counts.{counted_by, if_counted}
 use Rattle.tables.specs.Calls.{check_call, count_call, list_bars, list_call, list_after, list_front}
 
 -- an answer with a count has the sum of the ones, after a check that accepts; one without, its refusal
-is-count : (r : Reply) (x c : ℕ) → counted_by x r ≡ counted.Count c → (r ≡ Accepted) × (c ≡ x)
-is-count Accepted x c e = (refl, cc)
-is-count (Refused r) x c e = let z : ◌≡◌ {A = ℕ} 0 1 = cc in absurd (omega arith)
+is-count : (r : Reply) (x c : ℕ) → counted_by x r ≡ Ok c → (r ≡ Ok tt) × (c ≡ x)
+is-count (Ok _) x c e = (refl, cc)
+is-count (Err r) x c e = let z : ◌≡◌ {A = ℕ} 0 1 = cc in absurd (omega arith)
 
-is-refused : (r : Reply) (x : ℕ) (why : Refusal) → counted_by x r ≡ counted.Refused why → r ≡ Refused why
-is-refused Accepted x why e = let z : ◌≡◌ {A = ℕ} 0 1 = cc in absurd (omega arith)
-is-refused (Refused r) x why e = ap Refused cc
+is-refused : (r : Reply) (x : ℕ) (why : Refusal) → counted_by x r ≡ Err why → r ≡ Err why
+is-refused (Ok _) x why e = let z : ◌≡◌ {A = ℕ} 0 1 = cc in absurd (omega arith)
+is-refused (Err r) x why e = ap Err cc
 
 module _ (M : Model) (ab : Hash) (t : List ℕ) where
   pub count_by : (r : Reply) → check_call M ab t ≡ r → count_call M ab t ≡ counted_by (count_of t) r
@@ -48,40 +46,40 @@ module _ (M : Model) (ab : Hash) (t : List ℕ) where
 
     -- the check's refusals come first; where it accepts, the room decides
     pub list-by : (r : Reply) → check_call M ab t ≡ r
-        → list_call M ab t out ≡ counted_by (count_of t) (or_else r (cond (ltb (length out) (count_of t)) (Refused ShortList) Accepted))
+        → list_call M ab t out ≡ counted_by (count_of t) (or_else r (cond (ltb (length out) (count_of t)) (Err ShortList) (Ok tt)))
     list-by r e =
         let room : List Bar = if (ltb (length out) (count_of t)) ShortList ∷ [] in
         ap (counted_by (count_of t)) (first-append (table_bars M ab t) room ∙ ap (λ (a : Reply). or_else a (first_of room)) e)
 
     -- ---- by what count answers
-    pub refused-alike : (why : Refusal) → count_call M ab t ≡ counted.Refused why → list_call M ab t out ≡ counted.Refused why
-    refused-alike why e = list-by (Refused why) (is-refused (check_call M ab t) (count_of t) why e)
+    pub refused-alike : (why : Refusal) → count_call M ab t ≡ Err why → list_call M ab t out ≡ Err why
+    refused-alike why e = list-by (Err why) (is-refused (check_call M ab t) (count_of t) why e)
 
-    module _ (c : ℕ) (e : count_call M ab t ≡ counted.Count c) where
-      counted-by : (check_call M ab t ≡ Accepted) × (c ≡ count_of t)
+    module _ (c : ℕ) (e : count_call M ab t ≡ Ok c) where
+      counted-by : (check_call M ab t ≡ Ok tt) × (c ≡ count_of t)
       counted-by = is-count (check_call M ab t) (count_of t) c e
 
-      pub short : length out < c → list_call M ab t out ≡ counted.Refused ShortList
+      pub short : length out < c → list_call M ab t out ≡ Err ShortList
       short h =
           let h' : length out < count_of t = omega (arith, counted-by.1) in
-          list-by Accepted counted-by.0 ∙ rw (lt-ltb (length out) (count_of t) h')
+          list-by (Ok tt) counted-by.0 ∙ rw (lt-ltb (length out) (count_of t) h')
 
-      pub full : c ≤ length out → list_call M ab t out ≡ counted.Count c
+      pub full : c ≤ length out → list_call M ab t out ≡ Ok c
       full h =
           let h' : count_of t ≤ length out = omega (arith, counted-by.1) in
-          list-by Accepted counted-by.0 ∙ rw (le-ltb (length out) (count_of t) h', counted-by.1)
+          list-by (Ok tt) counted-by.0 ∙ rw (le-ltb (length out) (count_of t) h', counted-by.1)
 
       pub room : c ≤ length out → count_of t ≤ length out
       room h = omega (arith, counted-by.1)
 
     -- ---- where the list call gave the count c and left the list l, its first c places are the entries
-    module _ (c : ℕ) (l : List ℕ) (e : list_call M ab t out ≡ counted.Count c) (left : l ≡ list_after M ab t out) where
+    module _ (c : ℕ) (l : List ℕ) (e : list_call M ab t out ≡ Ok c) (left : l ≡ list_after M ab t out) where
       counts : c ≡ length (entries_of t)
       counts = (is-count (first_of (list_bars M ab t out)) (count_of t) c e).1 ∙ (theorem t).count ∙ sym (theorem t).long
 
       pub front : take c l ≡ list_front M ab t out
       front =
-          ap (take c) (left ∙ ap (λ (a : Counted). if_counted a (filled t out) out) e) ∙ take_at (entries_of t) (drop (occupied t) out) c (sym counts) ∙ sym (front-as (counted.Count c) e)
+          ap (take c) (left ∙ ap (λ (a : Counted). if_counted a (filled t out) out) e) ∙ take_at (entries_of t) (drop (occupied t) out) c (sym counts) ∙ sym (front-as (Ok c) e)
 
       pub front_length : c ≡ length (take c l)
-      front_length = counts ∙ sym (ap length (front ∙ front-as (counted.Count c) e))
+      front_length = counts ∙ sym (ap length (front ∙ front-as (Ok c) e))

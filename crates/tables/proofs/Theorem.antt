@@ -1,4 +1,5 @@
 -- What check, count and list promise.
+use Rattle.std.specs.Prelude.{Ok, Err}
 use mathlib.Core.Path.{◌≡◌, refl, sym, ap, ◌∙◌}
 use mathlib.Core.Logic.{◌≢◌, ◌↔◌}
 use mathlib.Core.List.{List, [], ◌∷◌, ◌++◌}
@@ -21,11 +22,8 @@ use Rattle.words.proofs.Theorem.{theorem as listing}
 use Rattle.state.specs.Counts.{count_number, count_value, counted_by, if_counted}
 use Rattle.state.specs.Model.{Model, Proper}
 use Rattle.state.specs.Refusals.{reply_number, first_of}
-use Rattle.state.specs.declared.Counted.{Counted}
-use Rattle.state.specs.declared.Counted.TheVariants as counted
+use Rattle.state.specs.Replies.{Counted, Reply}
 use Rattle.state.specs.declared.Refusal.TheVariants.{ShortList}
-use Rattle.state.specs.declared.Reply.{Reply}
-use Rattle.state.specs.declared.Reply.TheVariants.{Accepted}
 use Rattle.state.proofs.Counts.{count-number, kept}
 use Rattle.protocol.specs.Cases.{Decides}
 use Rattle.protocol.specs.Promise.{Soundness, GappedIn, DisorderedIn}
@@ -62,7 +60,7 @@ module _ (M : Model) (proper : Proper M) (ab : Hash) (t : List ℕ) where
         λ (sized, odd, sound). let (w, g, d) = (sounds.kinds M proper ab t).0 sound in from (((((tt, sized), odd), w), g), d),
       )
 
-  accepted : Usable M ab t → check_call M ab t ≡ Accepted
+  accepted : Usable M ab t → check_call M ab t ≡ Ok tt
   accepted u = none-accepted (check_call M ab t) (passes.1 u)
 
   count_true : Usable M ab t → count_value (count_call M ab t) ≡ size (labels label t)
@@ -127,15 +125,15 @@ module _ (M : Model) (proper : Proper M) (ab : Hash) (t : List ℕ) where
     list_counts = go (count_call M ab t) refl
       where
         go : (a : Counted) → count_call M ab t ≡ a → count_value a ≤ length out → list_call M ab t out ≡ a
-        go (counted.Count c) e h = full-list M ab t out c e h
-        go (counted.Refused why) e h = refused-alike M ab t out why e
+        go (Ok c) e h = full-list M ab t out c e h
+        go (Err why) e h = refused-alike M ab t out why e
 
     list_short : length out < count_value (count_call M ab t) → number ≡ 12
     list_short = go (count_call M ab t) refl
       where
         go : (a : Counted) → count_call M ab t ≡ a → length out < count_value a → number ≡ 12
-        go (counted.Count c) e h = ap count_number (short M ab t out c e h)
-        go (counted.Refused why) e h = absurd (omega arith)
+        go (Ok c) e h = ap count_number (short M ab t out c e h)
+        go (Err why) e h = absurd (omega arith)
 
     -- a list call that is not refused
     module _ (z : number ≡ 0) where
@@ -145,8 +143,8 @@ module _ (M : Model) (proper : Proper M) (ab : Hash) (t : List ℕ) where
           let ((((((_, sized), odd), w), g), d), l) = none.0 z in
           (usable sized odd w g d, l)
 
-      full : list_call M ab t out ≡ counted.Count (count_of t)
-      full = list-by M ab t out Accepted (accepted passed.0) ∙ rw (le-ltb (length out) (count_of t) passed.1)
+      full : list_call M ab t out ≡ Ok (count_of t)
+      full = list-by M ab t out (Ok tt) (accepted passed.0) ∙ rw (le-ltb (length out) (count_of t) passed.1)
 
       is-size : count_of t ≡ size (labels label t)
       is-size = counts passed.0

@@ -6,9 +6,8 @@ use Rattle.state.specs.Model.{Model}
 use Rattle.state.specs.Open.{table_bars}
 use Rattle.state.specs.Counts.{counted_by, if_counted}
 use Rattle.state.specs.Refusals.{Bar, if, first_of}
-use Rattle.state.specs.declared.Counted.{Counted}
+use Rattle.state.specs.Replies.{Counted, Reply}
 use Rattle.state.specs.declared.Refusal.TheVariants.{ShortList}
-use Rattle.state.specs.declared.Reply.{Reply}
 
 module _ (M : Model) (ab : Hash) (t : List ℕ) where
   -- check: refusals 1, 21, then 4, 17 and 18, in that order

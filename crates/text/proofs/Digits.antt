@@ -13,7 +13,7 @@ use lib.Seq.{append_snoc}
 use Rattle.text.specs.Bytes.{byte_at}
 use Rattle.text.specs.Numbers.{greatest_number, longest_number, digits, leads, value_from, value_of, is_number}
 use Rattle.text.specs.Digits.{digits_within, most_digits, digits_of}
-use Rattle.text.proofs.Test.{by-test, by-lt, true-false}
+use Rattle.text.proofs.Test.{by-test, by-lt}
 use Rattle.text.proofs.Bytes.{by_byte}
 use Rattle.text.proofs.Values.{leads-other, digits-nil, digits_append, digit-more, digit-parts, tab-no-digits}
 use Rattle.text.proofs.Values.{value-nil, value-cons, is-number, number-parts}
@@ -99,7 +99,7 @@ number-of-digits n h =
 -- no digit is a tab
 pub tabless-digits : (n : ℕ) → byte_at 9 (digits_of n) ≡ length (digits_of n)
 tabless-digits n = by_byte 9 (digits_of n)
-    (λ h. true-false (sym (digits-of-digits n) ∙ tab-no-digits (digits_of n) h))
+    (λ h. cc (digits-of-digits n, tab-no-digits (digits_of n) h))
     (λ h. h)
 
 -- ---- a field that writes a number is its digits
@@ -127,7 +127,7 @@ first-digit b l u =
 
 digits-back : (s : List ℕ) → leads s ≡ true → digits s ≡ true → digits_of (value_of s) ≡ s
 unfolding leads
-digits-back [] l h = true-false (sym l)
+digits-back [] l h = cc
 digits-back (b ∷ []) l h =
     let d = digit-parts b [] h in
     rw (value-cons 0 b [], value-nil) (first-digit b d.0 d.1)

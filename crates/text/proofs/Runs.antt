@@ -8,12 +8,11 @@ use borrow.Author.Tests.{le-leb, lt-leb, leb-true}
 use lib.Dec.{leb}
 use lib.ListN.{length, get_or, take, drop, length-drop}
 use lib.Seq.{length-take-le, get_or-take, get_or-drop}
-use Rattle.text.specs.declared.Number.{Number}
+use Rattle.std.specs.Prelude.{Some, None}
 use Rattle.text.specs.declared.Run.{Run}
-use Rattle.text.specs.declared.Scanned.{Scanned}
 use Rattle.text.specs.Bytes.{byte_at}
 use Rattle.text.specs.Numbers.{digits, value_of, is_number, number_of, ending_at, scanned_at, digits_in, leading, run_at}
-use Rattle.text.proofs.Test.{by-test, by-lt, true-false, both_true}
+use Rattle.text.proofs.Test.{by-test, by-lt, both_true}
 use Rattle.text.proofs.Bytes.{byte_le, byte-take, byte-found, first-at}
 use Rattle.text.proofs.Values.{digits-nil, digit-more, tab-no-digits, no-digits, scanned-none}
 
@@ -89,12 +88,12 @@ longer-no-digits (suc n) (b ∷ s) h k = by-digit b
 -- ---- the digits that begin at a place
 module _ (l : List ℕ) (from : ℕ) where
   pub run_none : (i : ℕ) → is_number (leading (drop from l)) ≡ false → i ≡ from + digits_in (drop from l)
-      → record { number = Number.Unreadable; end = i } ≡ run_at l from
+      → record { number = None; end = i } ≡ run_at l from
   unfolding run_at
   run_none i e k = rw (e, k)
 
   pub run-some : (x i : ℕ) → is_number (leading (drop from l)) ≡ true → x ≡ value_of (leading (drop from l)) → i ≡ from + digits_in (drop from l)
-      → record { number = Number.Read x; end = i } ≡ run_at l from
+      → record { number = Some x; end = i } ≡ run_at l from
   unfolding run_at
   run-some x i e v k = rw (e, v, k)
 
@@ -109,7 +108,7 @@ module _ (s : List ℕ) where
   run-before-tab = by-lt (byte_at 9 s) (digits_in s)
       (λ h.
       let t : byte_at 9 (leading s) < length (leading s) = omega (arith, byte-take 9 (digits_in s) s, length-leading s) in
-      true-false (sym (leading-digits s) ∙ tab-no-digits (leading s) t))
+      cc (leading-digits s, tab-no-digits (leading s) t))
       (λ h. h)
 
   -- the first tab stands behind them, or later if another byte stands there
@@ -141,7 +140,7 @@ module _ (l : List ℕ) (from : ℕ) {r : Run} (p : r ≡ run_at l from) where
   run-tab e = whole (tab-behind (drop from l) (sym behind ∙ e))
 
   -- else it is no number
-  pub run-other : r.end < length l → (get_or l r.end 0 ≡ 9 → ⊥) → Scanned.Unreadable ≡ scanned_at l from
+  pub run-other : r.end < length l → (get_or l r.end 0 ≡ 9 → ⊥) → None ≡ scanned_at l from
   run-other h n =
       let k : digits_in (drop from l) < length (drop from l) = omega (arith, (run-parts l from p).1, length-drop from l) in
       let t = tab-later (drop from l) k (λ e. n (behind ∙ e)) in

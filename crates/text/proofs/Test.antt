@@ -1,8 +1,7 @@
 -- Cases on a test, with its outcome in reach.
-use mathlib.Core.Path.{◌≡◌, refl, sym}
+use mathlib.Core.Path.{◌≡◌, refl}
 use mathlib.Core.Bool.{Bool, true, false, ◌&&◌}
 use Prim.Native.Nat.{ℕ, ◌≤◌, ◌<◌}
-use native.Mathlib.Omega.{arith}
 use borrow.Author.Tests.{ltb-true, ltb-false}
 use lib.Dec.{ltb}
 
@@ -14,13 +13,9 @@ pub by-lt {ℓ} : {C : Type ℓ} (a b : ℕ) → (a < b → C) → (b ≤ a → 
 by-lt a b f g = by-test (ltb a b) (λ e. f (ltb-true a b e)) (λ e. g (ltb-false a b e))
 
 pub true-false : {C : Type 0} → ◌≡◌ {A = Bool} true false → C
-true-false e = let z : ◌≡◌ {A = ℕ} 0 1 = cc in absurd (omega arith)
-
--- of two constructors of a type that are taken for one
-pub impossible {ℓ} : {C : Type ℓ} → ◌≡◌ {A = ℕ} 0 1 → C
-impossible z = absurd (omega arith)
+true-false e = cc
 
 -- both of two tests
 pub both_true : (s t : Bool) → (s && t) ≡ true → (s ≡ true) × (t ≡ true)
 both_true true t e = (refl, e)
-both_true false t e = true-false (sym e)
+both_true false t e = cc

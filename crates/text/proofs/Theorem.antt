@@ -3,7 +3,7 @@ use mathlib.Core.Path.{◌≡◌, refl, sym, ◌∙◌, ap}
 use mathlib.Core.List.{List}
 use Prim.Native.Nat.{ℕ}
 use native.Mathlib.Omega.{arith}
-use Rattle.text.specs.declared.Number.{Number}
+use Rattle.std.specs.Prelude.{Some}
 use Rattle.text.specs.Numbers.{value_of, number_of}
 use Rattle.text.specs.Digits.{digits_of, digits_within}
 use Rattle.text.specs.Bytes.{bytes_of}
@@ -23,7 +23,7 @@ of-digits n = record {
   read_back = λ h. let p = number-of-digits n h in rw (p.0, p.1);
 }
 
-read_as : (s : List ℕ) (n : ℕ) → number_of s ≡ Number.Read n → ReadAs s n
+read_as : (s : List ℕ) (n : ℕ) → number_of s ≡ Some n → ReadAs s n
 read_as s n e =
     let p = read_number s n e in
     let v : value_of s ≡ n = p.1 in

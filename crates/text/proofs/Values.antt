@@ -7,7 +7,7 @@ use native.Mathlib.Omega.{arith}
 use borrow.Author.Tests.{lt-leb, le-leb, leb-true, eq-eqb, ne_eqb, eqb-true}
 use lib.Dec.{leb, eqb}
 use lib.ListN.{length, get_or, drop}
-use Rattle.text.specs.declared.Number.{Number}
+use Rattle.std.specs.Prelude.{Option, Some, None}
 use Rattle.text.specs.declared.Scanned.{Scanned}
 use Rattle.text.specs.Bytes.{byte_at}
 use Rattle.text.specs.Fields.{first_field}
@@ -107,35 +107,31 @@ module _ (s : List ℕ) where
       let q = both_true (leads s) (digits s) p.0 in
       (q.0, q.1, leb-true (value_of s) greatest_number p.1)
 
-  pub read_number : (n : ℕ) → number_of s ≡ Number.Read n → (is_number s ≡ true) × (value_of s ≡ n)
+  pub read_number : (n : ℕ) → number_of s ≡ Some n → (is_number s ≡ true) × (value_of s ≡ n)
   read_number n e = by-test (is_number s)
-      (λ t. let r : Number.Read (value_of s) ≡ Number.Read n = rw t at e in (t, (cc)))
-      (λ t. let r : Number.Unreadable ≡ Number.Read n = rw t at e in let z : ◌≡◌ {A = ℕ} 0 1 = cc in absurd (omega arith))
+      (λ t. let r : Some (value_of s) ≡ Some n = rw t at e in (t, (cc)))
+      (λ t. let r : ◌≡◌ {A = Option ℕ} None (Some n) = rw t at e in cc)
 
 -- ---- the number of a field within a line
 module _ (l : List ℕ) (from : ℕ) where
   -- the field that begins there
-  pub scanned-none : is_number (first_field (drop from l)) ≡ false → Scanned.Unreadable ≡ scanned_at l from
+  pub scanned-none : is_number (first_field (drop from l)) ≡ false → None ≡ scanned_at l from
   unfolding scanned_at
   scanned-none e = rw e
 
-  pub unreadable-scan : Scanned.Unreadable ≡ scanned_at l from → is_number (first_field (drop from l)) ≡ false
+  pub unreadable-scan : None ≡ scanned_at l from → is_number (first_field (drop from l)) ≡ false
   unfolding scanned_at
   unreadable-scan e = by-test (is_number (first_field (drop from l)))
       (λ t.
-      let r : Scanned.Unreadable ≡ Scanned.Number (value_of (first_field (drop from l))) (from + byte_at 9 (drop from l)) = rw t at e in
-      let z : ◌≡◌ {A = ℕ} 0 1 = cc in
-      absurd (omega arith))
+      let r : None ≡ Some (record { number = value_of (first_field (drop from l)); end = from + byte_at 9 (drop from l) }) = rw t at e in
+      cc)
       (λ t. t)
 
-  pub number-scan : (x i : ℕ) → Scanned.Number x i ≡ scanned_at l from
-      → (is_number (first_field (drop from l)) ≡ true) × (value_of (first_field (drop from l)) ≡ x) × (i ≡ from + byte_at 9 (drop from l))
+  pub number-scan : (r : Scanned) → Some r ≡ scanned_at l from
+      → (is_number (first_field (drop from l)) ≡ true) × (value_of (first_field (drop from l)) ≡ r.number) × (r.end ≡ from + byte_at 9 (drop from l))
   unfolding scanned_at
-  number-scan x i e = by-test (is_number (first_field (drop from l)))
+  number-scan r e = by-test (is_number (first_field (drop from l)))
       (λ t.
-      let r : Scanned.Number x i ≡ Scanned.Number (value_of (first_field (drop from l))) (from + byte_at 9 (drop from l)) = rw t at e in
+      let q : Some r ≡ Some (record { number = value_of (first_field (drop from l)); end = from + byte_at 9 (drop from l) }) = rw t at e in
       (t, (cc), (cc)))
-      (λ t.
-      let r : Scanned.Number x i ≡ Scanned.Unreadable = rw t at e in
-      let z : ◌≡◌ {A = ℕ} 0 1 = cc in
-      absurd (omega arith))
+      (λ t. let q : Some r ≡ None = rw t at e in cc)

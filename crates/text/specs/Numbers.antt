@@ -1,6 +1,5 @@
 -- The numbers that fields write: decimal digits without a leading zero, up to the greatest number of 32 bits.
-use Rattle.std.specs.Prelude.{Bool, true, false, ◌&&◌, not, cond, List, [], ◌∷◌, ℕ, suc, ◌+◌, ◌-◌, ◌*◌, leb, eqb, take, drop}
-use Rattle.text.specs.declared.Number.{Number}
+use Rattle.std.specs.Prelude.{Bool, true, false, ◌&&◌, not, cond, List, [], ◌∷◌, ℕ, suc, ◌+◌, ◌-◌, ◌*◌, leb, eqb, take, drop, Option, Some, None}
 use Rattle.text.specs.declared.Run.{Run}
 use Rattle.text.specs.declared.Scanned.{Scanned}
 use Rattle.text.specs.Bytes.{byte_at}
@@ -39,17 +38,17 @@ unfoldable pub is_number : List ℕ → Bool
 is_number s = leads s && digits s && leb (value_of s) greatest_number
 
 -- the number that a field writes
-abbrev pub number_of : List ℕ → Number
-number_of s = cond (is_number s) (Number.Read (value_of s)) Number.Unreadable
+abbrev pub number_of : List ℕ → Option ℕ
+number_of s = cond (is_number s) (Some (value_of s)) None
 
 -- ---- a number within a line
 -- a number, and the place where its field ends
-abbrev pub ending_at : ℕ → Number → Scanned
-ending_at e (Number.Read n) = Scanned.Number n e
-ending_at e Number.Unreadable = Scanned.Unreadable
+abbrev pub ending_at : ℕ → Option ℕ → Option Scanned
+ending_at e (Some n) = Some (record { number = n; end = e })
+ending_at e None = None
 
 -- the number of the field that begins at a place of a line
-unfoldable pub scanned_at : List ℕ → ℕ → Scanned
+unfoldable pub scanned_at : List ℕ → ℕ → Option Scanned
 scanned_at l from = ending_at (from + byte_at 9 (drop from l)) (number_of (first_field (drop from l)))
 
 -- ---- a number within any text

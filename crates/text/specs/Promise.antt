@@ -1,6 +1,5 @@
 -- What is promised of fields, numbers and digits. Proved in proofs/Theorem.
-use Rattle.std.specs.Prelude.{◌≡◌, ◌≢◌, true, List, [], ◌∷◌, ℕ, ◌^◌, ◌≤◌, ◌<◌, length, get_or}
-use Rattle.text.specs.declared.Number.{Number}
+use Rattle.std.specs.Prelude.{◌≡◌, ◌≢◌, true, List, [], ◌∷◌, ℕ, ◌^◌, ◌≤◌, ◌<◌, length, get_or, Some}
 use Rattle.text.specs.Bytes.{byte_at, bytes_of}
 use Rattle.text.specs.Fields.{fields_of, joined}
 use Rattle.text.specs.Numbers.{longest_number, digits, value_of, number_of}
@@ -14,7 +13,7 @@ pub record Digits (n : ℕ) : Type 0 where
   pub value : value_of (digits_of n) ≡ n
   pub few : n < 2 ^ 64 → length (digits_of n) ≤ most_digits
   -- they are read back, up to the greatest number that is read
-  pub read_back : n ≤ 4294967295 → number_of (digits_of n) ≡ Number.Read n
+  pub read_back : n ≤ 4294967295 → number_of (digits_of n) ≡ Some n
 
 -- ---- a field s that is read as n
 pub record ReadAs (s : List ℕ) (n : ℕ) : Type 0 where
@@ -43,7 +42,7 @@ pub record TextPromise : Type 0 where
   pub parted : (f : List ℕ) (fs : List (List ℕ)) → Tabless (f ∷ fs) → fields_of (joined (f ∷ fs)) ≡ f ∷ fs
   pub zero_digit : digits_of 0 ≡ 48 ∷ []
   pub digits : (n : ℕ) → Digits n
-  pub number : (s : List ℕ) (n : ℕ) → number_of s ≡ Number.Read n → ReadAs s n
+  pub number : (s : List ℕ) (n : ℕ) → number_of s ≡ Some n → ReadAs s n
   -- the greatest number is written in tens, and has as many digits as the longest
   pub greatest : digits_of 4294967295 ≡ bytes_of "4294967295"
   pub longest : length (digits_of 4294967295) ≡ longest_number

@@ -1,4 +1,5 @@
 -- The record in front of a text: what the reader finds there, by the grammar and the digits of numbers.
+use Rattle.std.specs.Prelude.{Option, Some, None}
 use mathlib.Core.Path.{◌≡◌, refl, sym, ◌∙◌, ap}
 use mathlib.Core.Logic.{◌⊎◌, inl, inr}
 use mathlib.Core.List.{List}
@@ -7,8 +8,6 @@ use lib.ListN.{length, drop}
 use native.Mathlib.Omega.{arith}
 use Rattle.text.specs.Digits.{digits_of}
 use Rattle.text.specs.Numbers.{number_of}
-use Rattle.text.specs.declared.Number.{Number}
-use Rattle.text.proofs.Test.{impossible}
 use Rattle.text.proofs.Theorem.{text-promise}
 use Rattle.rfc4180.specs.Grammar.{Begins, Pair, pair, values}
 use Rattle.rfc4180.specs.Reader.{Parsed, record_of}
@@ -17,18 +16,18 @@ use Rattle.till.specs.Till.{Line, line, Front, front_by, front_with, front_of}
 use Rattle.till.specs.Promise.{Fits, written, FitsLine, NoNumber}
 
 -- ---- numbers
-number-back : (v : List ℕ) (n : ℕ) → number_of v ≡ Number.Read n → Fits n × (digits_of n ≡ v)
+number-back : (v : List ℕ) (n : ℕ) → number_of v ≡ Some n → Fits n × (digits_of n ≡ v)
 number-back v n e = let r = text-promise.number v n e in (omega (arith, r.range), r.canonical)
 
-number-of : (n : ℕ) → Fits n → number_of (digits_of n) ≡ Number.Read n
+number-of : (n : ℕ) → Fits n → number_of (digits_of n) ≡ Some n
 number-of n h = (text-promise.digits n).read_back (omega arith)
 
-no_number : (v : List ℕ) → number_of v ≡ Number.Unreadable → NoNumber v
-no_number v e n h q = let r : Number.Unreadable ≡ Number.Read n = sym e ∙ ap number_of q ∙ number-of n h in impossible (cc)
+no_number : (v : List ℕ) → number_of v ≡ None → NoNumber v
+no_number v e n h q = let r : None ≡ Some n = sym e ∙ ap number_of q ∙ number-of n h in cc
 
-unreadable : (v : List ℕ) (m : Number) → number_of v ≡ m → NoNumber v → number_of v ≡ Number.Unreadable
-unreadable v (Number.Read n) e f = let b = number-back v n e in absurd (f n b.0 (sym b.1))
-unreadable v Number.Unreadable e f = e
+unreadable : (v : List ℕ) (m : Option ℕ) → number_of v ≡ m → NoNumber v → number_of v ≡ None
+unreadable v (Some n) e f = let b = number-back v n e in absurd (f n b.0 (sym b.1))
+unreadable v None e f = e
 
 -- ---- what a front is
 pub record IsWrong (s : List ℕ) : Type 0 where
@@ -49,20 +48,20 @@ Is s Front.broken = (p : Pair) (next : List ℕ) → Begins s (values p) next �
 Is s Front.wrong = IsWrong s
 Is s (Front.front l n) = IsLine s l n
 
-is-by : (s a b : List ℕ) (n : ℕ) (x y : Number) → record_of s ≡ Parsed.parsed (pair a b) n → number_of a ≡ x → number_of b ≡ y → Is s (front_by x y n)
-is-by s a b n (Number.Read k) (Number.Read p) e ea eb =
+is-by : (s a b : List ℕ) (n : ℕ) (x y : Option ℕ) → record_of s ≡ Parsed.parsed (pair a b) n → number_of a ≡ x → number_of b ≡ y → Is s (front_by x y n)
+is-by s a b n (Some k) (Some p) e ea eb =
     let i = csv-promise.reads s in
     let (hk, qa) = number-back a k ea in
     let (hp, qb) = number-back b p eb in
     record { fit = (hk, hp); begins = rw (qa, qb) (i.sound (pair a b) n e); some = (i.some (pair a b) n e).0; within = (i.some (pair a b) n e).1 }
-is-by s a b n (Number.Read k) Number.Unreadable e ea eb = record {
+is-by s a b n (Some k) None e ea eb = record {
   first = a;
   second = b;
   next = drop n s;
   begins = (csv-promise.reads s).sound (pair a b) n e;
   no_number = inr (no_number b eb);
 }
-is-by s a b n Number.Unreadable y e ea eb = record {
+is-by s a b n None y e ea eb = record {
   first = a;
   second = b;
   next = drop n s;
@@ -74,7 +73,7 @@ is-with : (s : List ℕ) (x : Parsed) → record_of s ≡ x → Is s (front_with
 is-with s Parsed.broken e = λ p next b.
     let (n, q, _) = (csv-promise.reads s).complete p next b in
     let r : Parsed.broken ≡ Parsed.parsed p n = sym e ∙ q in
-    impossible (cc)
+    cc
 is-with s (Parsed.parsed (pair a b) n) e = is-by s a b n (number_of a) (number_of b) e refl refl
 
 pub front-is : (s : List ℕ) → Is s (front_of s)
@@ -88,9 +87,9 @@ line-front s next (line k p) (hk, hp) b =
     let (n, q, d) = (csv-promise.reads s).complete (pair (digits_of k) (digits_of p)) next b in
     (n, ap front_with q ∙ rw (number-of k hk, number-of p hp), d)
 
-second-wrong : (x : Number) (n : ℕ) → front_by x Number.Unreadable n ≡ Front.wrong
-second-wrong (Number.Read k) n = refl
-second-wrong Number.Unreadable n = refl
+second-wrong : (x : Option ℕ) (n : ℕ) → front_by x None n ≡ Front.wrong
+second-wrong (Some k) n = refl
+second-wrong None n = refl
 
 not_both : (a b : List ℕ) (n : ℕ) → NoNumber a ⊎ NoNumber b → front_by (number_of a) (number_of b) n ≡ Front.wrong
 not_both a b n (inl f) = rw (unreadable a (number_of a) refl f)

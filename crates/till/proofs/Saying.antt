@@ -5,7 +5,6 @@ use mathlib.Core.List.{List, [], ◌∷◌, map}
 use Prim.Native.Nat.{ℕ, zero, suc, ◌≤◌, ◌<◌}
 use native.Mathlib.Omega.{arith}
 use lib.ListN.{length, drop, length-drop}
-use Rattle.text.proofs.Test.{impossible}
 use Rattle.rfc4180.specs.Grammar.{File, Begins, Pair, pair, values, rows}
 use Rattle.rfc4180.specs.Promise.{Chain}
 use Rattle.rfc4180.proofs.Records.{begins-some, chain-some}
@@ -100,7 +99,7 @@ reached [] (Lines.none {s}) d f g = by_zero (length s) (f refl) g
     by_zero : {D : Type 0} (n : ℕ) → (n ≡ 0 → D) → (0 < n → D) → D
     by_zero zero f g = f refl
     by_zero (suc n) f g = g (omega arith)
-reached {rest = rest} (l ∷ ls) k d f g = ⊎_elim (λ (z : l ∷ ls ≡ []). impossible (cc)) g d
+reached {rest = rest} (l ∷ ls) k d f g = ⊎_elim (λ (z : l ∷ ls ≡ []). cc) g d
 
 pub broken-read : (s : List ℕ) → Broken s → reading_of s ≡ Reading.broken
 broken-read s w =
@@ -135,7 +134,7 @@ read-broken-is (b ∷ s) e =
     record { rest = rest; reaches = reaches k; no_record = f }
 
 pub read-wrong-is : (s : List ℕ) → reading_of s ≡ Reading.wrong → Wrong s
-read-wrong-is [] e = let z : Reading.broken ≡ Reading.wrong = sym (read_none [] refl) ∙ e in impossible (cc)
+read-wrong-is [] e = let z : Reading.broken ≡ Reading.wrong = sym (read_none [] refl) ∙ e in cc
 read-wrong-is (b ∷ s) e =
     let (rest, k, w) = rw (sym (read_some (b ∷ s) (omega arith)) ∙ e) at (outcome (b ∷ s)) in
     record {
@@ -166,12 +165,12 @@ lines-chain (Lines.more {s} {next} {rest} {l} {ls} r b k) e h =
     chain-on next l ls b (subst (λ (t : List ℕ). Lines next ls t) e k) (lines-chain k e)
 
 chain-lines : {s : List ℕ} {ps : List Pair} → Chain s ps → (ls : List Line) → map written ls ≡ ps → AllFit ls → Lines s ls []
-chain-lines (Chain.last b) [] e r = impossible (cc)
+chain-lines (Chain.last b) [] e r = cc
 chain-lines (Chain.last {s} {p} b) (l ∷ []) e (r, _) =
     let q : written l ≡ p = cc in
     Lines.more r (subst (λ (x : Pair). Begins s (values x) []) (sym q) b) Lines.none
-chain-lines (Chain.last b) (l ∷ m ∷ ls) e r = impossible (cc)
-chain-lines (Chain.more b k) [] e r = impossible (cc)
+chain-lines (Chain.last b) (l ∷ m ∷ ls) e r = cc
+chain-lines (Chain.more b k) [] e r = cc
 chain-lines (Chain.more {s} {next} {p} {ps} b k) (l ∷ ls) e (r, rs) =
     let q : written l ≡ p = cc in
     let qs : map written ls ≡ ps = cc in
@@ -183,7 +182,7 @@ holds_read s ls y =
     read_some s (chain-some c) ∙ read-lines (chain-lines c ls refl y.fit) ∙ ap (in_front_all ls) (read-end 0) ∙ all_lines ls
 
 pub read-holds : (s : List ℕ) (ls : List Line) → reading_of s ≡ Reading.lines ls → Holds s ls
-read-holds [] ls e = let z : Reading.broken ≡ Reading.lines ls = sym (read_none [] refl) ∙ e in impossible (cc)
+read-holds [] ls e = let z : Reading.broken ≡ Reading.lines ls = sym (read_none [] refl) ∙ e in cc
 read-holds (b ∷ s) ls e =
     let k : Lines (b ∷ s) ls [] = rw (sym (read_some (b ∷ s) (omega arith)) ∙ e) at (outcome (b ∷ s)) in
     record { file = (csv-promise.chain (b ∷ s) (map written ls)).1 (lines-chain k refl (omega arith)); fit = lines_fit k }
@@ -191,8 +190,8 @@ read-holds (b ∷ s) ls e =
 -- ---- a file of records of two fields
 front-broken : (l : Line) (r : Reading) → in_front l r ≡ Reading.broken → r ≡ Reading.broken
 front-broken l Reading.broken e = refl
-front-broken l Reading.wrong e = impossible (cc)
-front-broken l (Reading.lines ls) e = impossible (cc)
+front-broken l Reading.wrong e = cc
+front-broken l (Reading.lines ls) e = cc
 
 -- its first record is a line, or wrong; and if what is behind a line is not broken, it is not
 unbroken-by : (s next : List ℕ) (p : Pair) → Begins s (values p) next → (read_behind next 0 ≡ Reading.broken → ⊥) → (x : Front) → front_of s ≡ x → Is s x
@@ -200,13 +199,13 @@ unbroken-by : (s next : List ℕ) (p : Pair) → Begins s (values p) next → (r
 unbroken-by s next p b f Front.broken e i = λ z. i p next b
 unbroken-by s next p b f Front.wrong e i = λ z.
     let q : Reading.wrong ≡ Reading.broken = sym (read-wrong s (begins-some s p b) e) ∙ z in
-    impossible (cc)
+    cc
 unbroken-by s next p b f (Front.front l n) e i = λ z.
     let same = (csv-promise.one_record s (values p) (values (written l)) next (drop n s) b i.begins).1 in
     f (ap (λ (t : List ℕ). read_behind t 0) same ∙ front-broken l (read_behind (drop n s) 0) (sym (read-line s (begins-some s p b) e) ∙ z))
 
 read-ended : (s : List ℕ) → s ≡ [] → read_behind s 0 ≡ Reading.broken → ⊥
-read-ended s e z = let q : Reading.lines [] ≡ Reading.broken = sym (read-end 0) ∙ ap (λ (t : List ℕ). read_behind t 0) (sym e) ∙ z in impossible (cc)
+read-ended s e z = let q : Reading.lines [] ≡ Reading.broken = sym (read-end 0) ∙ ap (λ (t : List ℕ). read_behind t 0) (sym e) ∙ z in cc
 
 chain-unbroken : {s : List ℕ} {ps : List Pair} → Chain s ps → read_behind s 0 ≡ Reading.broken → ⊥
 chain-unbroken (Chain.last {s} {p} b) = unbroken-by s [] p b (read-ended [] refl) (front_of s) refl (front-is s)

@@ -1,4 +1,5 @@
 -- What specs/Promise promises.
+use Rattle.std.specs.Prelude.{Ok}
 use mathlib.Core.Path.{◌≡◌, refl, sym, ◌∙◌, ap}
 use mathlib.Core.Logic.{◌≢◌, ◌↔◌}
 use mathlib.Core.Bool.{true, false}
@@ -10,16 +11,14 @@ use lib.Dec.{ltb}
 use lib.ListN.{length, get_or, length-map}
 use Rattle.ring.proofs.Split.{by-lt, by-eq}
 use Rattle.ring.proofs.Tests.{not_both, within-says}
-use Rattle.text.proofs.Test.{impossible}
 use Rattle.orders.specs.Orders.{blank, orders_of}
 use Rattle.orders.specs.declared.Order.{Order}
-use Rattle.parallel.proofs.Parallel.{orders-length}
+use Rattle.parallel.proofs.Lists.{orders-length}
 use Rattle.state.specs.Counts.{count_number, count_value, counted_by, if_counted}
 use Rattle.state.specs.Model.{Model, crew_ok}
 use Rattle.state.specs.Refusals.{reply_number, first_of}
 use Rattle.state.specs.declared.Refusal.TheVariants.{Crew, ShortList, BadRecord, BadField}
-use Rattle.state.specs.declared.Reply.{Reply}
-use Rattle.state.specs.declared.Reply.TheVariants.{Accepted}
+use Rattle.state.specs.Replies.{Reply}
 use Rattle.state.proofs.Counts.{count-number, kept}
 use Rattle.protocol.specs.Cases.{Decides}
 use Rattle.protocol.specs.WellFormed.{Crew as CrewOf}
@@ -112,7 +111,7 @@ module _ (M : Model) (text : List ℕ) (m places : ℕ) where
         room = by-lt places (length ls) (λ l. absurd (room (record { lines = ls; holds = read-holds text ls r; short = l }))) (λ l. l);
       })
 
-  accepted : number ≡ 0 → reply ≡ Accepted
+  accepted : number ≡ 0 → reply ≡ Ok tt
   accepted z = none-accepted reply (sym is-number ∙ z)
 
   passes : CrewOf M m × ((ls : List Line) × Holds text ls × (length ls ≤ places)) → number ≡ 0
@@ -121,8 +120,8 @@ module _ (M : Model) (text : List ℕ) (m places : ℕ) where
       let r = holds_read text ls holds in
       from (
         (
-          ((tt, crew), λ w. let z : Reading.lines ls ≡ Reading.broken = sym r ∙ broken-read text w in impossible (cc)),
-          λ w. let z : Reading.lines ls ≡ Reading.wrong = sym r ∙ wrong-read text w in impossible (cc),
+          ((tt, crew), λ w. let z : Reading.lines ls ≡ Reading.broken = sym r ∙ broken-read text w in cc),
+          λ w. let z : Reading.lines ls ≡ Reading.wrong = sym r ∙ wrong-read text w in cc,
         ),
         λ s.
             let z : Reading.lines ls ≡ Reading.lines s.lines = sym r ∙ holds_read text s.lines s.holds in
@@ -228,7 +227,7 @@ one_list text ls ls' s s' = let e : Reading.lines ls ≡ Reading.lines ls' = sym
 
 -- and one thing is wrong with it at most
 both-wrong : (text : List ℕ) → Broken text → Wrong text → ⊥
-both-wrong text b w = let e : Reading.broken ≡ Reading.wrong = sym (broken-read text b) ∙ wrong-read text w in impossible (cc)
+both-wrong text b w = let e : Reading.broken ≡ Reading.wrong = sym (broken-read text b) ∙ wrong-read text w in cc
 
 pub till-promise : TillPromise
 till-promise = record {

@@ -1,4 +1,5 @@
 pub mod Examples
 pub mod Places
 pub mod Promise
+pub mod Refused
 pub mod Till

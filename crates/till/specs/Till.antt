@@ -1,7 +1,6 @@
 -- The lines that a text says, and the call that reads them into a list of orders. specs/Promise says the same by the grammar of RFC 4180.
-use Rattle.std.specs.Prelude.{Bool, true, false, cond, List, [], ◌∷◌, ◌++◌, map, ℕ, zero, suc, ltb, length, drop}
+use Rattle.std.specs.Prelude.{Bool, true, false, cond, List, [], ◌∷◌, ◌++◌, map, ℕ, zero, suc, ltb, length, drop, Option, Some, None}
 use Rattle.text.specs.Numbers.{number_of}
-use Rattle.text.specs.declared.Number.{Number}
 use Rattle.rfc4180.specs.Grammar.{pair}
 use Rattle.rfc4180.specs.Reader.{Parsed, record_of}
 use Rattle.orders.specs.Orders.{order_with, orders_of}
@@ -9,7 +8,7 @@ use Rattle.orders.specs.declared.Order.{Order}
 use Rattle.state.specs.Counts.{counted_by, if_counted}
 use Rattle.state.specs.Model.{Model, crew_ok}
 use Rattle.state.specs.Refusals.{Bar, if, unless, first_of}
-use Rattle.state.specs.declared.Counted.{Counted}
+use Rattle.state.specs.Replies.{Counted}
 use Rattle.state.specs.declared.Refusal.TheVariants.{Crew, ShortList, BadRecord, BadField}
 
 -- a line of a till list: a key (label) and its price
@@ -23,10 +22,10 @@ pub data Front : Type 0 where
   wrong : Front
   front : Line → ℕ → Front
 
-abbrev pub front_by : Number → Number → ℕ → Front
-front_by (Number.Read k) (Number.Read p) n = Front.front (line k p) n
-front_by (Number.Read k) Number.Unreadable n = Front.wrong
-front_by Number.Unreadable q n = Front.wrong
+abbrev pub front_by : Option ℕ → Option ℕ → ℕ → Front
+front_by (Some k) (Some p) n = Front.front (line k p) n
+front_by (Some k) None n = Front.wrong
+front_by None q n = Front.wrong
 
 abbrev pub front_with : Parsed → Front
 front_with Parsed.broken = Front.broken

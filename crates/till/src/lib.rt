@@ -1,16 +1,35 @@
 // Till lists (document 02, point 4) as definitions in specs/, with their promise. Here are only the types that they need.
 #![tactic(auto)]
 
-use orders::Order;
-use state::Counted;
+ghost use Rattle.std.specs.Prelude.{◌≡◌};
+ghost use Rattle.till.specs.Refused.{refusal_of};
 
-// What stands at a place of a text where a record begins: a label and a price, and the place of the next record. It is broken if no record of two
-// fields stands there, and wrong if one of its fields is no number.
+use state::Refusal;
+
+// A record of a text: a label and a price, and the place of the next record.
 #[derive(Clone, Copy)]
-pub enum Record {
+pub struct Record {
+    pub key: u32,
+    pub price: u32,
+    pub next: usize,
+}
+
+// What is bad where a record should begin: broken if no record of two fields stands there, wrong if one of its fields is no number.
+#[derive(Clone, Copy)]
+pub enum Bad {
     Broken,
     Wrong,
-    Line(u32, u32, usize),
+}
+
+impl From<Bad> for Refusal {
+    ghost from_gives = { λ bad why. why ≡ refusal_of bad };
+
+    fn from(bad: Bad) -> Refusal {
+        match bad {
+            Bad::Broken => Refusal::BadRecord,
+            Bad::Wrong => Refusal::BadField,
+        }
+    }
 }
 
 // Where a text is read on, and the worker whose turn it is.
@@ -20,17 +39,9 @@ pub struct Cursor {
     pub worker: u32,
 }
 
-// The order of a record, and where it goes on.
-#[derive(Clone, Copy)]
-pub struct Dealt {
-    pub order: Order,
-    pub next: Cursor,
-}
-
-// What is known before the first order is written: the answer, how many orders there are to write, and the crew.
+// What is known before the first order is written: how many orders there are to write, and the crew.
 #[derive(Clone, Copy)]
 pub struct Begun {
-    pub counted: Counted,
     pub lines: usize,
     pub crew: u32,
 }

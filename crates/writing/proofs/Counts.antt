@@ -1,11 +1,12 @@
 -- How many digits a number has, by its size, and stores from the last one on.
-use mathlib.Core.Path.{◌≡◌, ◌∙◌, ap}
-use mathlib.Core.List.{List, [], ◌∷◌, ◌++◌}
-use Prim.Native.Nat.{ℕ, suc, ◌+◌, ◌/◌, ◌≤◌, ◌<◌}
+use mathlib.Core.Path.{◌≡◌, sym, ◌∙◌, ap}
+use mathlib.Core.List.{List, [], ◌∷◌, ◌++◌, append_assoc}
+use Prim.Native.Nat.{ℕ, suc, ◌+◌, ◌-◌, ◌/◌, ◌≤◌, ◌<◌}
 use native.Mathlib.Omega.{arith}
 use native.Mathlib.Nat.{add-zero}
-use lib.ListN.{length, set, length-append}
-use lib.Seq.{sets, set_comm}
+use lib.ListN.{length, set, take, drop, length-append}
+use lib.Seq.{sets, set_comm, sets-eq, drop-drop}
+use borrow.Rule.Slice.PartMut.{put_mid}
 use Rattle.text.specs.Digits.{digits_of}
 use Rattle.text.proofs.Digits.{one-digit, more-digits}
 
@@ -40,3 +41,10 @@ sets_last (a ∷ vs) l i b =
     let e : suc i + length vs ≡ i + suc (length vs) = omega arith in
     sets_last vs (set l i a) (suc i) b
     ∙ rw e (ap (λ (r : List ℕ). sets r (suc i) vs) (set_comm l i (i + suc (length vs)) a b (λ d. omega arith)))
+
+-- a part that is written over by as many bytes is a run of stores
+pub part_sets : (l vs : List ℕ) (at : ℕ) → at + length vs ≤ length l → put_mid at (at + length vs - at) l vs ≡ sets l at vs
+part_sets l vs at h =
+    let k : at + length vs - at ≡ length vs = omega arith in
+    let d : drop (length vs) (drop at l) ≡ drop (at + length vs) l = drop-drop (length vs) at l in
+    rw k (rw d (sym (append_assoc (take at l) vs (drop (at + length vs) l)) ∙ sym (sets-eq vs l at h)))

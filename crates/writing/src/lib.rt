@@ -9,13 +9,7 @@ ghost use Rattle.text.specs.Put.{put_at, place_after};
 fn fits(len: usize, at: usize, count: usize) -> bool
     ensures { result ≡ leb (at + count) len }
 {
-    if len < at {
-        return false;
-    }
-    if len - at < count {
-        return false;
-    }
-    true
+    at <= len && count <= len - at
 }
 
 // Writes the bytes from `at` on if there is room, and answers the place behind; else changes nothing and answers `at`.
@@ -25,36 +19,27 @@ pub fn put_bytes(out: &mut [u8], at: usize, bytes: &[u8]) -> usize
     if !fits(out.len(), at, bytes.len()) {
         return at;
     }
-    let mut i: usize = 0;
-    let mut place = at;
-    while i < bytes.len() {
-        out[place] = bytes[i];
-        place += 1;
-        i += 1;
-    }
-    place
+    let end = at + bytes.len();
+    out[at..end].copy_from_slice(bytes);
+    end
 }
 
 // How many digits `n` has. Four are passed over at a time.
 fn places(n: u64) -> usize
     ensures { result ≡ length (digits_of n) }
 {
-    let mut more: usize = 0;
+    let mut more = 0;
     let mut rest = n;
     while 10000 <= rest {
         rest /= 10000;
         more += 4;
     }
-    if rest < 10 {
-        return more + 1;
+    more + match rest {
+        0..=9 => 1,
+        10..=99 => 2,
+        100..=999 => 3,
+        _ => 4,
     }
-    if rest < 100 {
-        return more + 2;
-    }
-    if rest < 1000 {
-        return more + 3;
-    }
-    more + 4
 }
 
 // Writes the digits of `n` from `at` on if there is room, and answers the place behind; else changes nothing and answers `at`. The last digit is
@@ -62,18 +47,15 @@ fn places(n: u64) -> usize
 pub fn put_number(out: &mut [u8], at: usize, n: u64) -> usize
     ensures { (result ≡ place_after out.old at (digits_of n)) × (out.new ≡ put_at out.old at (digits_of n)) }
 {
-    let k = places(n);
-    if !fits(out.len(), at, k) {
+    let count = places(n);
+    if !fits(out.len(), at, count) {
         return at;
     }
-    let end = at + k;
-    let mut place = end - 1;
+    let end = at + count;
     let mut rest = n;
-    while 10 <= rest {
-        out[place] = 48 + (rest % 10) as u8;
+    for place in (at..end).rev() {
+        out[place] = b'0' + (rest % 10) as u8;
         rest /= 10;
-        place -= 1;
     }
-    out[place] = 48 + rest as u8;
     end
 }

@@ -11,22 +11,22 @@ returns-in_default c =
     answers-bad c.requires.0 a.line a.number a.at a.out.now bad _ _
     (bad-printed a.number c.ranges.number.fits c.requires.1 c.put_number-from.ensures c.put_bytes-end.ensures)
 
-pub perform-done-requires : goal.perform-done-requires
-perform-done-requires c = finds c.requires.0 c.args.line (as_read c.requires.0 c.args.line c.reading_in.ensures c.in-Todo.is)
+pub perform-told-requires : goal.perform-told-requires
+perform-told-requires c = finds c.requires.0 c.args.line (as_read c.requires.0 c.args.line c.reading_in.ensures c.in-Some.is)
 
 pub put_told-behind-requires : goal.put_told-behind-requires
 put_told-behind-requires c =
     let a = c.args in
-    let asked = as_read c.requires.0 a.line c.reading_in.ensures c.in-Todo.is in
-    let next = next-roomy c.requires.0 a.line asked c.perform-done.ensures c.perform-done.auto.cells c.perform-done.auto.items in
+    let asked = as_read c.requires.0 a.line c.reading_in.ensures c.in-Some.is in
+    let next = next-roomy c.requires.0 a.line asked c.perform-told.ensures c.perform-told.auto.cells c.perform-told.auto.items in
     room-left a.number a.out.now a.at c.ranges.number.fits c.requires.1 c.put_number-from.ensures _
     (omega (arith, table-length next, next.fits))
 
 pub returns : goal.returns
 returns c =
     let a = c.args in
-    let done = c.perform-done in
-    let asked = as_read c.requires.0 a.line c.reading_in.ensures c.in-Todo.is in
+    let done = c.perform-told in
+    let asked = as_read c.requires.0 a.line c.reading_in.ensures c.in-Some.is in
     let next = next-roomy c.requires.0 a.line asked done.ensures done.auto.cells done.auto.items in
     answers-todo c.requires.0 a.line asked done.ensures done.auto.cells done.auto.items a.number a.at a.out.now _ _
     (line-printed a.number c.ranges.number.fits c.requires.1 (omega (arith, table-length next, next.fits))

@@ -6,6 +6,6 @@ put_reply-behind-requires c = reply-room c.args.number c.args.out.now c.args.at 
 
 pub returns : goal.returns
 returns c =
-    order-told c.one_order-given.ensures
-    (reply-printed c.args.number c.one_order-given.result.reply c.ranges.number.fits c.requires.1 c.put_number-from.ensures
+    order-told c.one_order-reply.ensures
+    (reply-printed c.args.number c.one_order-reply.result.reply c.ranges.number.fits c.requires.1 c.put_number-from.ensures
     c.put_reply-behind.ensures c.put_bytes-end.ensures)

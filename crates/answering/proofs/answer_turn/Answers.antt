@@ -6,6 +6,6 @@ put_turn-behind-requires c = reply-room c.args.number c.args.out.now c.args.at c
 
 pub returns : goal.returns
 returns c =
-    turn-told c.one_turn-moved.ensures
-    (turn-printed c.args.number c.one_turn-moved.result.reply c.ranges.number.fits c.requires.1.1.1 c.put_number-from.ensures
+    turn-told c.one_turn-reply.ensures
+    (turn-printed c.args.number c.one_turn-reply.result.reply c.ranges.number.fits c.requires.1.1.1 c.put_number-from.ensures
     c.put_turn-behind.ensures c.put_bytes-end.ensures)

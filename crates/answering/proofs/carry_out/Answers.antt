@@ -16,6 +16,3 @@ returns-in-Close c = rw c.in-Close.is (closes c.requires.roomy c.args.items.now 
 
 pub returns-in-List : goal.returns-in-List
 returns-in-List c = rw c.in-List.is (tells-on c.requires.roomy c.args.items.now c.requires.kept _ _ _ c.list_table.ensures)
-
-pub returns-in-Unknown : goal.returns-in-Unknown
-returns-in-Unknown c = rw c.in-Unknown.is (tells-on c.requires.roomy c.args.items.now c.requires.kept _ _ _ c.tell.ensures)

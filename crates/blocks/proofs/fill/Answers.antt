@@ -1,106 +1,88 @@
 -- Each line of the block is answered by one of three functions; what each ensures is an answer to the line, so that one law serves all three.
-use Rattle.std.proofs.Common.{refl, sym, ◌∙◌, arith}
-use Rattle.orders.specs.Orders.{kept_orders}
-use Rattle.fitting.specs.Fitting.{most_items}
-use Rattle.fitting.proofs.Fitting.{aimed}
+use Rattle.std.proofs.Common.{◌≡◌, ℕ, ◌<◌, List, take, refl, sym, ap, ◌∙◌, arith}
+use Rattle.std.specs.Prelude.{Option, Some}
+use Rattle.orders.specs.declared.Order.{Order}
+use Rattle.lines.specs.declared.Line.{Line}
+use Rattle.fitting.specs.Fitting.{aim_of}
+use Rattle.fitting.specs.declared.Aim.{Aim}
+use Rattle.fitting.proofs.Fitting.{Aimed, aimed}
+use Rattle.feed.specs.Feed.{Kept}
+use Rattle.blocks.specs.declared.Carried.{Carried}
 use Rattle.answering.proofs.One.{few-crew, some-cells, good-worker, order-line, turn-line}
-use Rattle.blocks.proofs.Filling.{filling-none, same_none, same-on, end-within, filled-part, next_line, ended-line}
+use Rattle.blocks.proofs.Filling.{Filling, filling-none, same_none, same-on, end-within, filled-part, next_line, ended-line}
 use Rattle.blocks.proofs.fill.Goals as goal
 
+-- a line to one worker
+module _ {k₀ : Kept} {block line cells : List ℕ} {items : List Order} {out : List ℕ} {c : Carried} {from at : ℕ} (h : Filling k₀ block line cells items out c from at) (l : Line)
+    {a : Option Aim} (told : a ≡ aim_of c.replay.phase.kind c.replay.phase.shut l c.replay.phase.crew (take c.replay.items items))
+    {b : Aim} (is : a ≡ Some b) where
+  to : (x : Aim) → b ≡ x → Aimed c.replay.phase.kind c.replay.phase.shut l c.replay.phase.crew (take c.replay.items items) (Some x)
+  to x e = aimed _ _ _ _ _ (sym (is ∙ ap Some e) ∙ told)
+
+  order-room : (o : Order) → b ≡ Aim.Order o → o.worker < 16
+  order-room o e = let t = to (Aim.Order o) e in omega (arith, few-crew _ _ _ h.behind.held.ready t.1.up, t.1.below)
+
+  turn-room : (w : ℕ) → b ≡ Aim.Turn w → w < 16
+  turn-room w e = let t = to (Aim.Turn w) e in omega (arith, few-crew _ _ _ h.behind.held.ready t.1.up, t.1.below)
+
 pub loop-from-init : goal.loop-from-init
-loop-from-init c =
-    let fit = c.requires.0 in (
-      filling-none
-          (record {
-            held = record { ready = fit.held.ready; gathered = fit.held.gathered };
-            goes = refl;
-            line_long = fit.line_long;
-            countable = fit.countable;
-          })
-          c.requires.1.1,
-      same_none,
-    )
+loop-from-init c = (filling-none c.requires.0 c.requires.1.1, same_none)
 
 pub overflow_add-end : goal.overflow_add-end
 overflow_add-end c = omega (arith, end-within c.loop-from.invariant.0.behind c.byte_at.ensures)
 
 pub returns-then-block-end : goal.returns-then-block-end
 returns-then-block-end c =
-    rw c.requires.0.goes (filled-part c.loop-from.invariant.0 c.loop-from-test.true c.byte_at.ensures c.if-block-end.true c.gather-n.ensures)
+    (filled-part c.loop-from.invariant.0 c.loop-from-test.true c.byte_at.ensures c.if-block-end.true c.gather.ensures)
 
-pub bounds-phase-w : goal.bounds-phase-w
-bounds-phase-w c =
-    let v = c.loop-from in
-    let to = aimed v.phase.kind v.phase.shut c.read_end-read.result v.phase.crew (kept_orders most_items v.count v.items)
-    (sym c.in-Order.is ∙ c.aim_of-aim.ensures) in
-    omega (arith, few-crew _ _ _ v.invariant.0.behind.held.ready to.0.up, to.0.below)
+pub bounds-carried-w : goal.bounds-carried-w
+bounds-carried-w c = order-room c.loop-from.invariant.0 c.read_end-read.result c.aim_of-aim.ensures c.in-Some-Order.is c.in-Some-Order.order (rw c.in-Some-Order.is at c.in-Some-Order.field-0-is)
 
-pub bounds-phase-w-in-Order : goal.bounds-phase-w-in-Order
-bounds-phase-w-in-Order c =
-    let v = c.loop-from in
-    let to = aimed v.phase.kind v.phase.shut c.read_end-read.result v.phase.crew (kept_orders most_items v.count v.items)
-    (sym c.in-Order.is ∙ c.aim_of-aim.ensures) in
-    omega (arith, few-crew _ _ _ v.invariant.0.behind.held.ready to.0.up, to.0.below)
+pub bounds-carried-w-in-Some-Order : goal.bounds-carried-w-in-Some-Order
+bounds-carried-w-in-Some-Order c = order-room c.loop-from.invariant.0 c.read_end-read.result c.aim_of-aim.ensures c.in-Some-Order.is c.in-Some-Order.order (rw c.in-Some-Order.is at c.in-Some-Order.field-0-is)
 
-pub bounds-phase-w-in-Turn : goal.bounds-phase-w-in-Turn
-bounds-phase-w-in-Turn c =
-    let v = c.loop-from in
-    let to = aimed v.phase.kind v.phase.shut c.read_end-read.result v.phase.crew (kept_orders most_items v.count v.items)
-    (sym c.in-Turn.is ∙ c.aim_of-aim.ensures) in
-    omega (arith, few-crew _ _ _ v.invariant.0.behind.held.ready to.0.up, to.0.below)
+pub bounds-carried-w-in-Some-Turn : goal.bounds-carried-w-in-Some-Turn
+bounds-carried-w-in-Some-Turn c = turn-room c.loop-from.invariant.0 c.read_end-read.result c.aim_of-aim.ensures c.in-Some-Turn.is c.in-Some-Turn.worker (rw c.in-Some-Turn.is at c.in-Some-Turn.field-0-is)
 
-pub bounds-phase-w-in-Turn-2 : goal.bounds-phase-w-in-Turn-2
-bounds-phase-w-in-Turn-2 c =
-    let v = c.loop-from in
-    let to = aimed v.phase.kind v.phase.shut c.read_end-read.result v.phase.crew (kept_orders most_items v.count v.items)
-    (sym c.in-Turn.is ∙ c.aim_of-aim.ensures) in
-    omega (arith, few-crew _ _ _ v.invariant.0.behind.held.ready to.0.up, to.0.below)
+pub bounds-carried-w-in-Some-Turn-2 : goal.bounds-carried-w-in-Some-Turn-2
+bounds-carried-w-in-Some-Turn-2 c = turn-room c.loop-from.invariant.0 c.read_end-read.result c.aim_of-aim.ensures c.in-Some-Turn.is c.in-Some-Turn.worker (rw c.in-Some-Turn.is at c.in-Some-Turn.field-0-is)
 
-pub answer_order-ordered-requires : goal.answer_order-ordered-requires
-answer_order-ordered-requires c =
-    let v = c.loop-from in
-    let to = aimed v.phase.kind v.phase.shut c.read_end-read.result v.phase.crew (kept_orders most_items v.count v.items)
-    (sym c.in-Order.is ∙ c.aim_of-aim.ensures) in
-    (some-cells _ _ _ v.invariant.0.behind.held.ready to.0.up, omega (arith, v.invariant.0.room))
+pub answer_order-worked-requires : goal.answer_order-worked-requires
+answer_order-worked-requires c =
+    let v = c.loop-from.invariant.0 in
+    (some-cells _ _ _ v.behind.held.ready (to v c.read_end-read.result c.aim_of-aim.ensures c.in-Some-Order.is (Aim.Order c.in-Some-Order.order) (rw c.in-Some-Order.is at c.in-Some-Order.field-0-is)).1.up, omega (arith, v.room))
 
-pub loop-from-preserved-in-Order : goal.loop-from-preserved-in-Order
-loop-from-preserved-in-Order c =
-    let v = c.loop-from in
-    let to = aimed v.phase.kind v.phase.shut c.read_end-read.result v.phase.crew (kept_orders most_items v.count v.items)
-    (sym c.in-Order.is ∙ c.aim_of-aim.ensures) in
+pub loop-from-preserved-in-Some-Order : goal.loop-from-preserved-in-Some-Order
+loop-from-preserved-in-Some-Order c =
+    let v = c.loop-from.invariant in
     let line = c.read_end-read.auto.line in
-    let out = c.answer_order-ordered.auto.out in (
-      next_line v.invariant.0 c.loop-from-test.true c.byte_at.ensures c.if-block-end.false (omega (arith, v.invariant.0.room)) c.read_end-read.ensures
-          (order-line v.invariant.0.behind.held.ready to c.answer_order-ordered.ensures) _ line out refl,
-      same-on v.invariant.1 line refl refl out,
+    let out = c.answer_order-worked.auto.out in (
+      next_line v.0 c.loop-from-test.true c.byte_at.ensures c.if-block-end.false (omega (arith, v.0.room)) c.read_end-read.ensures
+          (order-line v.0.behind.held.ready (to v.0 c.read_end-read.result c.aim_of-aim.ensures c.in-Some-Order.is (Aim.Order c.in-Some-Order.order) (rw c.in-Some-Order.is at c.in-Some-Order.field-0-is)) c.answer_order-worked.ensures) _ line out refl,
+      same-on v.1 line refl refl out,
     )
 
-pub answer_turn-stepped-requires : goal.answer_turn-stepped-requires
-answer_turn-stepped-requires c =
-    let v = c.loop-from in
-    let ready = v.invariant.0.behind.held.ready in
-    let to = aimed v.phase.kind v.phase.shut c.read_end-read.result v.phase.crew (kept_orders most_items v.count v.items)
-    (sym c.in-Turn.is ∙ c.aim_of-aim.ensures) in
-    let good = good-worker _ _ _ ready to.0.up _ to.0.below in
-    (good.0, (good.1, (omega (arith, ready.roomy.fits, ready.roomy.most), omega (arith, v.invariant.0.room))))
+pub answer_turn-worked-requires : goal.answer_turn-worked-requires
+answer_turn-worked-requires c =
+    let v = c.loop-from.invariant.0 in
+    let ready = v.behind.held.ready in
+    let t = to v c.read_end-read.result c.aim_of-aim.ensures c.in-Some-Turn.is (Aim.Turn c.in-Some-Turn.worker) (rw c.in-Some-Turn.is at c.in-Some-Turn.field-0-is) in
+    let good = good-worker _ _ _ ready t.1.up _ t.1.below in
+    (good.0, (good.1, (omega (arith, ready.roomy.fits, ready.roomy.most), omega (arith, v.room))))
 
-pub loop-from-preserved-in-Turn : goal.loop-from-preserved-in-Turn
-loop-from-preserved-in-Turn c =
-    let v = c.loop-from in
-    let to = aimed v.phase.kind v.phase.shut c.read_end-read.result v.phase.crew (kept_orders most_items v.count v.items)
-    (sym c.in-Turn.is ∙ c.aim_of-aim.ensures) in
+pub loop-from-preserved-in-Some-Turn : goal.loop-from-preserved-in-Some-Turn
+loop-from-preserved-in-Some-Turn c =
+    let v = c.loop-from.invariant in
     let line = c.read_end-read.auto.line in
-    let cells = c.answer_turn-stepped.auto.cells in
-    let out = c.answer_turn-stepped.auto.out in (
-      next_line v.invariant.0 c.loop-from-test.true c.byte_at.ensures c.if-block-end.false (omega (arith, v.invariant.0.room)) c.read_end-read.ensures
-          (turn-line v.invariant.0.behind.held.ready to c.answer_turn-stepped.ensures) _ line out refl,
-      same-on v.invariant.1 line cells refl out,
+    let r = c.answer_turn-worked in (
+      next_line v.0 c.loop-from-test.true c.byte_at.ensures c.if-block-end.false (omega (arith, v.0.room)) c.read_end-read.ensures
+          (turn-line v.0.behind.held.ready (to v.0 c.read_end-read.result c.aim_of-aim.ensures c.in-Some-Turn.is (Aim.Turn c.in-Some-Turn.worker) (rw c.in-Some-Turn.is at c.in-Some-Turn.field-0-is)) r.ensures) _ line r.auto.out refl,
+      same-on v.1 line r.auto.cells refl r.auto.out,
     )
 
 pub returns-then-answered : goal.returns-then-answered
 returns-then-answered c =
     let v = c.loop-from in
-    rw c.requires.0.goes
     (ended-line v.invariant.0 c.loop-from-test.true c.byte_at.ensures c.if-block-end.false (omega (arith, v.invariant.0.room))
     c.read_end-read.ensures c.answer-answered.ensures _ c.if-answered.true)
 

@@ -1,5 +1,4 @@
 use Rattle.std.proofs.Common.{◌≡◌, ap, false, arith}
-use Rattle.orders.specs.Orders.{orders_of}
 use Rattle.sheet.specs.Replay.{blank}
 use Rattle.answering.specs.Store.{replay_of}
 use Rattle.answering.specs.declared.Replay.{Replay}
@@ -8,7 +7,6 @@ use Rattle.blocks.specs.Kept.{kept_of, Begins}
 use Rattle.blocks.proofs.start.Goals as goal
 
 begins : {replay : Replay} → replay ≡ replay_of blank → Begins (record { replay = replay; number = 0; len = 0; ended = false })
-unfolding orders_of
 begins e =
     record {
       kept = λ line cells items. ap (λ (r : Replay). kept_of (record { replay = r; number = 0; len = 0; ended = false }) line cells items) e;
@@ -16,4 +14,4 @@ begins e =
     }
 
 pub returns : goal.returns
-returns c = begins c.start-replay.ensures
+returns c = begins c.start.ensures

@@ -1,5 +1,5 @@
 -- The laps so far, and the turns so far of the lap.
-use Rattle.std.proofs.Common.{◌-◌, ◌≡◌, suc}
+use Rattle.std.proofs.Common.{◌≡◌, suc}
 use Rattle.state.specs.Model.{gateway}
 use Rattle.dealing.specs.Deal.{enough}
 use Rattle.dealing.proofs.Lapping.{Lapping}
@@ -12,12 +12,9 @@ invariant-loop-w l =
     Lapping gateway (record { dealt = record { phase = l.initial.phase; finishes = l.initial.finishes }; table = l.initial.cells }) l.count
     (record { dealt = record { phase = l.phase; finishes = l.finishes }; table = l.cells }) l.w
 
-abbrev pub decreases-loop-w : goal.decreases-loop-w
-decreases-loop-w l = l.count - l.w
-
-abbrev pub invariant-loop-phase : goal.invariant-loop-phase
-invariant-loop-phase l =
+abbrev pub invariant-laps : goal.invariant-laps
+invariant-laps l =
     Going gateway l.initial.phase l.initial.cells (record { dealt = record { phase = l.phase; finishes = l.finishes }; table = l.cells }) × (l.count ≡ l.phase.crew)
 
-abbrev pub decreases-loop-phase : goal.decreases-loop-phase
-decreases-loop-phase l = left gateway (suc (enough l.initial.phase)) (record { dealt = record { phase = l.phase; finishes = l.finishes }; table = l.cells })
+abbrev pub decreases-laps : goal.decreases-laps
+decreases-laps l = left gateway (suc (enough l.initial.phase)) (record { dealt = record { phase = l.phase; finishes = l.finishes }; table = l.cells })

@@ -5,6 +5,3 @@ use Rattle.listing.proofs.occupancy.Given as goal
 
 abbrev pub invariant-loop-i : goal.invariant-loop-i
 invariant-loop-i l = (l.i ≤ length l.group) × (l.word ≡ word_of (drop l.i l.group))
-
-abbrev pub decreases-loop-i : goal.decreases-loop-i
-decreases-loop-i l = l.i

@@ -2,13 +2,14 @@
 use Rattle.std.proofs.Common.{◌≡◌, ◌+◌, ◌≤◌, ◌<◌, ◌++◌, ℕ, suc, true, false, List, [], ◌∷◌, length, drop, set, map, refl, sym, ap, ◌∙◌, arith, length-append, length-drop}
 use lib.ListN.{length-map}
 use lib.Seq.{append_snoc, drop-drop}
+use Rattle.std.specs.Prelude.{None, Some}
 use Rattle.text.specs.Bytes.{byte_at}
 use Rattle.text.specs.Fields.{fields_of, first_field}
 use Rattle.text.specs.Numbers.{value_of, is_number}
 use Rattle.text.proofs.Bytes.{byte_le}
 use Rattle.text.proofs.Fields.{only-field, first-whole, fields-cut, first_field_lem}
 use Rattle.text.proofs.Values.{unreadable-scan, number-scan}
-use Rattle.lines.specs.Grammar.{most_numbers, padded, unreadable, are_numbers, numbers_of}
+use Rattle.lines.specs.Grammar.{most_numbers, padded, are_numbers, numbers_of}
 use Rattle.lines.proofs.Lists.{numbers-all, numbers-wrong, numbers-many, are-none, are-more, are-wrong, stored_more}
 use Rattle.parsing.proofs.numbers_of.Invariants.{SoFar}
 use Rattle.parsing.proofs.numbers_of.Goals as goal
@@ -25,11 +26,11 @@ module _ {s : List ℕ} {from : ℕ} {values : List ℕ} {count at : ℕ} (v : S
   unfolding first rest
   cut-here = v.cut ∙ ap (λ (fs : List (List ℕ)). v.fields ++ fs) (first_field_lem (drop at s)).1
 
-  wrong : is_number (first_field (drop at s)) ≡ false → unreadable ≡ numbers_of (fields_of (drop from s))
+  wrong : is_number (first_field (drop at s)) ≡ false → None ≡ numbers_of (fields_of (drop from s))
   unfolding first
   wrong e = sym (ap numbers_of cut-here ∙ numbers-wrong (v.fields ++ first ∷ rest) (are-wrong v.fields first rest e))
 
-  many : most_numbers ≤ count → unreadable ≡ numbers_of (fields_of (drop from s))
+  many : most_numbers ≤ count → None ≡ numbers_of (fields_of (drop from s))
   many h =
       let k : most_numbers < length (v.fields ++ first ∷ rest) = omega (arith, v.counted, length-append v.fields (first ∷ rest)) in
       sym (ap numbers_of cut-here ∙ numbers-many (v.fields ++ first ∷ rest) k)
@@ -54,7 +55,7 @@ module _ {s : List ℕ} {from : ℕ} {values : List ℕ} {count at : ℕ} (v : S
         let k : length v.fields < most_numbers = omega (arith, v.counted) in
         rw (v.stored, v.counted, ← p.1) (stored_more v.fields first k)
 
-    last : length s ≤ end → record { readable = true; count = count + 1; values = set values count n } ≡ numbers_of (fields_of (drop from s))
+    last : length s ≤ end → Some (record { count = count + 1; values = set values count n }) ≡ numbers_of (fields_of (drop from s))
     unfolding more first
     last k =
         let e : byte_at 9 (drop at s) ≡ length (drop at s) = omega (arith, p.2, byte_le 9 (drop at s), length-drop at s) in
@@ -73,20 +74,19 @@ module _ {s : List ℕ} {from : ℕ} {values : List ℕ} {count at : ℕ} (v : S
           each = more-each;
           counted = more-counted;
           stored = more-stored;
-          few = omega arith;
         }
 
 pub loop-count-init : goal.loop-count-init
-loop-count-init c = record { fields = []; cut = refl; each = are-none; counted = refl; stored = refl; few = omega arith }
+loop-count-init c = record { fields = []; cut = refl; each = are-none; counted = refl; stored = refl }
 
-pub returns-in_default : goal.returns-in_default
-returns-in_default c = c.unreadable_numbers.ensures ∙ wrong c.loop-count.invariant (unreadable-scan _ _ c.in_default.ensures)
+pub returns-in_err-number : goal.returns-in_err-number
+returns-in_err-number c = rw c.from_residual.ensures (wrong c.loop-count.invariant (unreadable-scan _ _ c.in_err-number.ensures))
 
 pub returns-then-s-end : goal.returns-then-s-end
-returns-then-s-end c = last c.loop-count.invariant c.loop-count-test.true (number-scan _ _ _ _ c.in-Number.ensures) c.if-s-end.true
+returns-then-s-end c = last c.loop-count.invariant c.loop-count-test.true (number-scan _ _ _ c.in_ok-number.ensures) c.if-s-end.true
 
 pub loop-count-preserved : goal.loop-count-preserved
-loop-count-preserved c = next c.loop-count.invariant c.loop-count-test.true (number-scan _ _ _ _ c.in-Number.ensures) c.if-s-end.false
+loop-count-preserved c = next c.loop-count.invariant c.loop-count-test.true (number-scan _ _ _ c.in_ok-number.ensures) c.if-s-end.false
 
 pub returns : goal.returns
-returns c = c.unreadable_numbers-2.ensures ∙ many c.loop-count.invariant c.loop-count-test.false
+returns c = many c.loop-count.invariant (omega arith)

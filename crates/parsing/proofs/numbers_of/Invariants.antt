@@ -1,8 +1,8 @@
 -- The loop keeps the fields read so far: they and those from `at` on are the fields, each was a number, and the values stand in front of zeros.
-use Rattle.std.proofs.Common.{◌≡◌, ◌-◌, ◌≤◌, ◌++◌, ℕ, true, List, length, drop, map}
+use Rattle.std.proofs.Common.{◌≡◌, ◌++◌, ℕ, true, List, length, drop, map}
 use Rattle.text.specs.Fields.{fields_of}
 use Rattle.text.specs.Numbers.{value_of}
-use Rattle.lines.specs.Grammar.{most_numbers, padded, are_numbers}
+use Rattle.lines.specs.Grammar.{padded, are_numbers}
 use Rattle.parsing.proofs.numbers_of.Given as goal
 
 pub record SoFar (s : List ℕ) (from : ℕ) (values : List ℕ) (count at : ℕ) : Type 0 where
@@ -11,10 +11,6 @@ pub record SoFar (s : List ℕ) (from : ℕ) (values : List ℕ) (count at : ℕ
   pub each : are_numbers fields ≡ true
   pub counted : count ≡ length fields
   pub stored : values ≡ padded (map value_of fields)
-  pub few : count ≤ most_numbers
 
 abbrev pub invariant-loop-count : goal.invariant-loop-count
 invariant-loop-count l = SoFar l.s l.from l.values l.count l.at
-
-abbrev pub decreases-loop-count : goal.decreases-loop-count
-decreases-loop-count l = most_numbers - l.count

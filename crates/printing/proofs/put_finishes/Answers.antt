@@ -1,9 +1,6 @@
 -- One worker more.
-use Rattle.std.proofs.Common.{arith}
-use Rattle.printing.proofs.Loops.{finishing-on}
+use Rattle.printing.proofs.Loops.{one_finish}
 use Rattle.printing.proofs.put_finishes.Goals as goal
 
-pub loop-w-preserved : goal.loop-w-preserved
-loop-w-preserved c =
-    let v = c.loop-w.invariant in
-    (finishing-on v.0 _ (omega arith) c.if-count-w.false c.put_finish-place.ensures, v.1, omega arith)
+pub loop-finish-preserved : goal.loop-finish-preserved
+loop-finish-preserved c = one_finish _ _ c.loop-finish-test.true c.loop-finish.invariant c.put_finish-place.ensures

@@ -1,20 +1,20 @@
 -- The loop keeps what is still to be counted: the records from `at` on, behind those counted, give the answer.
 use Rattle.std.proofs.Common.{length, ◌-◌, ◌+◌, ◌≡◌, ◌≤◌, ℕ, List}
-use Rattle.state.specs.declared.Counted.{Counted}
-use Rattle.state.specs.declared.Counted.TheVariants as counted
-use Rattle.state.specs.declared.Refusal.TheVariants.{BadRecord, BadField}
+use Rattle.std.specs.Prelude.{Result, Ok, Err}
+use Rattle.till.specs.declared.Bad.{Bad}
+use Rattle.till.specs.declared.Bad.TheVariants.{Broken, Wrong}
 use Rattle.till.specs.Places.{records_of}
 use Rattle.till.specs.Till.{Reading, reading_of}
 use Rattle.till.proofs.Places.{read_from}
 use Rattle.reading.proofs.count_records.Given as goal
 
 -- the answer where n records were counted before
-abbrev pub count_from : ℕ → Reading → Counted
-count_from n Reading.broken = counted.Refused BadRecord
-count_from n Reading.wrong = counted.Refused BadField
-count_from n (Reading.lines ls) = counted.Count (n + length ls)
+abbrev pub count_from : ℕ → Reading → Result ℕ Bad
+count_from n Reading.broken = Err Broken
+count_from n Reading.wrong = Err Wrong
+count_from n (Reading.lines ls) = Ok (n + length ls)
 
-pub record Counting (text : List ℕ) (goal : Counted) (at count : ℕ) : Type 0 where
+pub record Counting (text : List ℕ) (goal : Result ℕ Bad) (at count : ℕ) : Type 0 where
   pub few : count ≤ at
   pub same : count_from count (read_from text at) ≡ goal
 

@@ -7,7 +7,7 @@ use Rattle.replay.proofs.block_done.Given as goal
 abbrev pub invariant-loop-from : goal.invariant-loop-from
 invariant-loop-from g l =
     record {
-      behind : Behind (kept_of l.fn.carried l.fn.line l.fn.cells l.fn.items) l.block l.line l.cells l.items l.kept l.from;
+      behind : Behind (kept_of l.initial.carried l.fn.line l.fn.cells l.fn.items) l.block l.line l.cells l.items l.carried l.from;
       room : longest_answer ≤ length l.out;
     }
 

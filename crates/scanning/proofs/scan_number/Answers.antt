@@ -1,15 +1,10 @@
 -- The field is the number that its digits write, if they end where it does.
-use Rattle.std.proofs.Common.{arith, sym, ap, ◌∙◌}
-use Rattle.text.specs.Numbers.{ending_at}
-use Rattle.text.proofs.Runs.{run-last, run-tab}
-use Rattle.scanning.proofs.Fields.{unread}
+use Rattle.std.proofs.Common.{arith}
+use Rattle.scanning.proofs.Fields.{unread, read}
 use Rattle.scanning.proofs.scan_number.Goals as goal
 
-pub returns-in-Read : goal.returns-in-Read
-returns-in-Read c =
-    let e = c.digits_at-run.ensures in
-    sym (ap (ending_at _) c.in-Read.is)
-    ∙ grind (arith, run-tab _ _ e, run-last _ _ e)
+pub returns-in_err-number : goal.returns-in_err-number
+returns-in_err-number c = unread _ _ c.digits_at-number.ensures c.from_residual.ensures c.in_err-number.was
 
-pub returns-in-Unreadable : goal.returns-in-Unreadable
-returns-in-Unreadable c = unread _ _ c.digits_at-run.ensures c.in-Unreadable.is
+pub returns : goal.returns
+returns c = read _ _ c.digits_at-number.ensures _ c.in_ok-number.was (grind arith)

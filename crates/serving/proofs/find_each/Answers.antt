@@ -13,8 +13,7 @@ loop-i-init c = record {
   served = find-starts _ _ _ c.requires.0 c.requires.1;
   same = refl;
   told = none_told _ _ _ _;
-  some = omega arith;
-  all = c.acks_of-acks.ensures;
+  all = c.acks_of-i-end.ensures;
   room = c.requires.2;
 }
 
@@ -31,7 +30,6 @@ loop-i-preserved c =
       same = same;
       told = one_told _ _ _ _ l.i l.answers _ (omega (arith, v.told.long, v.room))
           (number ∙ ap (λ (r : Ack). reply_number (ack_reply a.phase.crew a.cells.now r)) (sym (ack-at _ _ l.i more))) v.told;
-      some = omega arith;
       all = v.all;
       room = v.room;
     }

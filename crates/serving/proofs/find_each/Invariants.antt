@@ -1,4 +1,4 @@
-use Rattle.std.proofs.Common.{◌-◌, ◌≡◌, ◌≤◌, [], length}
+use Rattle.std.proofs.Common.{◌≡◌, ◌≤◌, [], length}
 use Rattle.rounds.specs.Rounds.{acks_of}
 use Rattle.serving.specs.Serving.{Served}
 use Rattle.serving.proofs.Telling.{Told}
@@ -10,10 +10,6 @@ invariant-loop-i l = record {
   served : Served l.device 3 l.fn.phase.crew l.fn.phase.hash [] l.fn.cells l.next l.fn.cells;
   same : l.cells ≡ l.fn.cells;
   told : Told l.fn.phase.crew l.fn.cells (acks_of l.keys l.workers) l.fn.answers l.i l.answers;
-  some : l.i ≤ l.acks;
-  all : l.acks ≡ length (acks_of l.keys l.workers);
+  all : l.i-end ≡ length (acks_of l.keys l.workers);
   room : length (acks_of l.keys l.workers) ≤ length l.fn.answers;
 }
-
-abbrev pub decreases-loop-i : goal.decreases-loop-i
-decreases-loop-i l = l.acks - l.i

@@ -1,17 +1,13 @@
 -- So many calls are run.
-use Rattle.std.proofs.Common.{◌-◌, ◌≡◌, ◌≤◌}
-use Rattle.orders.specs.Orders.{orders_of}
+use Rattle.std.proofs.Common.{◌≡◌}
 use Rattle.state.specs.Model.{model_of}
-use Rattle.numbered.specs.Lists.{fewest}
+use Rattle.singly.specs.Lent.{count_of}
 use Rattle.singly.proofs.Singly.{Singly}
 use Rattle.singly.proofs.run_singly.Given as goal
 
 abbrev pub invariant-loop-i : goal.invariant-loop-i
-invariant-loop-i l =
-    (l.all ≡ fewest l.ops l.lines l.workers l.keys l.initial.answers)
-    × (l.i ≤ l.all)
-    × Singly (model_of l.device) (orders_of l.order_keys l.order_prices l.order_workers) l.ops l.lines l.workers l.keys l.initial.next l.initial.cells l.initial.answers
-    l.i l.next l.cells l.answers
-
-abbrev pub decreases-loop-i : goal.decreases-loop-i
-decreases-loop-i l = l.all - l.i
+invariant-loop-i g l = record {
+  all : l.i-end ≡ count_of l.calls l.initial.answers;
+  ran : Singly (model_of l.device) (g.L.Lines.orders l.list) l.calls.ops.now l.calls.lines.now l.calls.workers.now l.calls.keys.now l.initial.next l.initial.cells
+      l.initial.answers l.i l.next l.cells l.answers;
+}

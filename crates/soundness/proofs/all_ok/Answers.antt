@@ -1,9 +1,11 @@
-use Rattle.std.proofs.Common.{sym}
-use Rattle.soundness.proofs.Passing.{all-stops, all-ends}
+use Rattle.std.proofs.Common.{rules, tests, ◌∙◌}
+use Rattle.std.proofs.lemmas.Iterator.{YieldsList-from_slice}
+use Rattle.std.proofs.lemmas.Iterator.Search.{all_from_yields_List}
+use Rattle.prices.specs.Contents.{cell_ok}
+use Rattle.soundness.proofs.Passing.{each}
 use Rattle.soundness.proofs.all_ok.Goals as goal
 
-pub returns-then-not-cell_ok : goal.returns-then-not-cell_ok
-returns-then-not-cell_ok c = all-stops _ c.loop-j-test.true (sym c.if-not-cell_ok.ensures)
-
 pub returns : goal.returns
-returns c = all-ends _ c.loop-j.invariant c.loop-j-test.false
+returns c =
+    all_from_yields_List cell_ok _ _ c.all.result c.all.ensures.ran (YieldsList-from_slice c.args.cells.now cc) (λ x b q k. search (rules, tests))
+    ∙ each cell_ok c.args.cells.now

@@ -1,9 +1,7 @@
-use borrow.Author.Tests.{eq-eqb}
-use Rattle.soundness.proofs.Passing.{some-stops, some-ends}
+use Rattle.std.proofs.Common.{◌∙◌}
+use lib.Dec.{eqb}
+use Rattle.soundness.proofs.Passing.{one_of}
 use Rattle.soundness.proofs.some_empty.Goals as goal
 
-pub returns-then-cells-j-eq0 : goal.returns-then-cells-j-eq0
-returns-then-cells-j-eq0 c = some-stops _ c.loop-j-test.true (eq-eqb _ _ c.if-cells-j-eq0.true)
-
 pub returns : goal.returns
-returns c = some-ends _ c.loop-j.invariant c.loop-j-test.false
+returns c = c.contains.ensures.value ∙ one_of (λ x. eqb x 0) c.args.cells.now
