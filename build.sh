@@ -8,6 +8,6 @@ for program in replay price_change; do
     cp "crates/$program/out/$program" target/bin/
 done
 for library in gateway kiosk; do
-    (cd "crates/$library" && rt lib)
-    cp "crates/$library/out/lib$library.a" target/staticlib/
+    (cd "crates/${library}_c" && rt lib)
+    cp "crates/${library}_c/out/lib${library}_c.a" "target/staticlib/lib$library.a"
 done

@@ -108,6 +108,8 @@ fn set_cells(replay: Replay, length: u32, cells: &mut [u64]) -> Done
 }
 
 // The list of orders lent is that of the items. A refused opening leaves the phase that was there.
+// Apart, so that only a line that opens has room for what an opening keeps while it tests the list.
+#[inline(never)]
 fn open_phase(
     replay: Replay,
     kind: u32,

@@ -12,6 +12,7 @@ ghost use Rattle.protocol.specs.Calls.{entry_for, close_call, order_found, order
 ghost use Rattle.protocol.specs.IsWellFormed.{is_well_formed};
 ghost use Rattle.protocol.specs.Split.{one_order, one_turn, one_cells};
 ghost use Rattle.calls.specs.Asking.{asked_for};
+ghost use Rattle.calls.specs.Closing.{closed_in_place};
 
 use activities::{Activity, Worker};
 use formed::{all_idle, is_idle, is_well_formed};
@@ -243,8 +244,10 @@ pub fn turn_in_place(phase: &mut Phase, cells: &mut [u64], worker: usize) -> Res
     moved.reply
 }
 
+// A close. It takes every record: also of one that is well formed to no model it is said what it does.
 pub fn close_in_place(phase: &mut Phase) -> Result<(), Refusal>
-    ensures { (d : Device) → is_well_formed (model_of d) phase.old ≡ true
+    ensures any { record { phase = phase.new; reply = result } ≡ closed_in_place phase.old }
+    ensures well_formed { (d : Device) → is_well_formed (model_of d) phase.old ≡ true
         → record { phase = phase.new; reply = result } ≡ close_call (model_of d) phase.old }
 {
     if phase.shut {

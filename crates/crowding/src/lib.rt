@@ -10,7 +10,9 @@ ghost use Rattle.orders.specs.Orders.{ordered_keys};
 use distinct::{mark, mark_cells};
 use lent::Lines;
 
-// Whether the labels of the table and of the orders together, each counted once, are as many as the cells or more.
+// Whether the labels of the table and of the orders together, each counted once, are as many as the cells or more. A function by itself, so that callers that
+// come by without it do not reserve the room of its trie.
+#[inline(never)]
 #[tactic(auto, using(crate::proofs::Counts::count_rules))]
 pub fn lines_crowded<L: Lines>(cells: &[u64], list: L) -> bool
     requires { length cells.now ≤ 8192 }

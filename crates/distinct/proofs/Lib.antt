@@ -2,3 +2,4 @@ pub mod Search
 pub mod Marks
 pub mod Sizes
 pub mod Theorem
+pub mod Both

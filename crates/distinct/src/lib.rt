@@ -1,8 +1,9 @@
-// Keys (labels) counted once each (document 02, point 2: refusal 9). Those met so far stand in a hash trie in an array, so that no choice of keys makes the
-// count slow: two different keys part within 32 links.
+// Keys (labels) counted once each, and whether those of a table and of a list together are as many as the cells or more (document 02, point 2: refusal 9).
+// Those met so far stand in a hash trie in an array, so that no choice of keys makes the count slow: two different keys part within 32 links.
 #![tactic(auto)]
 
-ghost use Rattle.std.specs.Prelude.{◌≡◌, ◌<◌, ◌≤◌};
+ghost use Rattle.std.specs.Prelude.{◌≡◌, ◌++◌, ◌<◌, ◌≤◌, leb, length};
+ghost use Rattle.layout.specs.Layout.{size};
 ghost use Rattle.prices.specs.Priced.{labels};
 ghost use Rattle.prices.specs.Contents.{label};
 ghost use Rattle.distinct.specs.Trie.{root_of, link_of, counted, marked, total, all_marked};
@@ -72,4 +73,28 @@ pub fn mark_cells(trie: &mut [u32; 40960], limit: usize, cells: &[u64]) -> usize
         count = mark(trie, count, limit, (*cell / PRICES) as u32);
     }
     count
+}
+
+// The keys are counted on from `start`.
+fn mark_keys(trie: &mut [u32; 40960], start: usize, limit: usize, keys: &[u32]) -> usize
+    requires { limit ≤ 8192 }
+    ensures { result ≡ total trie.old start limit keys.now }
+{
+    let mut count = start;
+    for key in keys {
+        count = mark(trie, count, limit, *key);
+    }
+    count
+}
+
+// Whether the labels of the table and of the list together, each counted once, are as many as the cells or more.
+pub fn crowded(cells: &[u64], keys: &[u32]) -> bool
+    requires { length cells.now ≤ 8192 }
+    ensures { result ≡ leb (length cells.now) (size (labels label cells.now ++ keys.now)) }
+{
+    let mut trie = [0u32; 40960];
+    let limit = cells.len();
+    let start = mark_cells(&mut trie, limit, cells);
+    let count = mark_keys(&mut trie, start, limit, keys);
+    limit <= count
 }

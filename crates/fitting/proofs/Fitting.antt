@@ -37,7 +37,7 @@ taken-parts r (Some m) vs e = let p = cond_some (eqb m.count r.takes) m.values v
 no-task : {c : Command} {vs : List ℕ} {C : Type 0} → Some Task.Refuse ≡ Some (Task.Perform c vs) → C
 no-task e = absurd (let z : ◌≡◌ {A = ℕ} 0 1 = cc in omega arith)
 
-handled-performed : (h : Handling) (n : Option (List ℕ)) (d c : Command) (vs : List ℕ) → handled h n d ≡ Some (Task.Perform c vs)
+pub handled-performed : (h : Handling) (n : Option (List ℕ)) (d c : Command) (vs : List ℕ) → handled h n d ≡ Some (Task.Perform c vs)
     → (h ≡ Performed) × (d ≡ c) × (n ≡ Some vs)
 handled-performed Performed (Some n) d c vs e = (refl, (cc), ap Some (cc))
 handled-performed Performed None d c vs e = absurd (none-some _ e)

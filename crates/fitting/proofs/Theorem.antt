@@ -37,7 +37,7 @@ by_row k e c f shut x h = by-option x.command (λ d q. rw (q, h d q)) (λ q. rw 
 pub other-kind : (k : ℕ) → k ≢ 1 → order_numbers k ≡ 2
 other-kind k h = rw (ne_eqb k 1 h)
 
-same_rows : (k : ℕ) → k ≢ 1 → (c : ℕ) (d : Command) → row_of k c d ≡ row_of 2 c d
+pub same_rows : (k : ℕ) → k ≢ 1 → (c : ℕ) (d : Command) → row_of k c d ≡ row_of 2 c d
 same_rows k h c Command.Cells = refl
 same_rows k h c Command.Open = refl
 same_rows k h c Command.Item = refl

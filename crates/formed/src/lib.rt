@@ -63,18 +63,15 @@ pub fn numbers_ok(device: Device, kind: u32, length: u32, crew: u32) -> bool
         && Phase::crew_ok(device, crew as usize)
 }
 
-// Whether a phase is not spoilt, in document 01's word, to a model.
+// Whether a phase is not spoilt, in document 01's word, to a model. An idle worker is good in each place, and most are idle: that is asked first.
 #[tactic(auto, unfolding(protocol::specs::IsWellFormed::is_well_formed))]
 pub fn is_well_formed(device: Device, phase: &Phase) -> bool
     ensures { result ≡ is_well_formed (model_of device) phase.now }
 {
     numbers_ok(device, phase.kind, phase.length, phase.crew)
         && phase.workers.iter().enumerate().all(|(i, worker)| {
-            if i < phase.crew as usize {
-                activity_ok(phase.kind, phase.length, worker.activity)
-            } else {
-                is_idle(worker.activity)
-            }
+            is_idle(worker.activity)
+                || i < phase.crew as usize && activity_ok(phase.kind, phase.length, worker.activity)
         })
 }
 

@@ -1,4 +1,4 @@
-// The gateway's functions for C and Rust, numbers and slices alone, which the header vulzegan.h declares: each is the call of crate `answers` for this model.
+// The gateway's calls: those that are handed a record, and functions for C and Rust, numbers and slices alone, which the header vulzegan.h declares.
 #![tactic(auto)]
 
 ghost use Rattle.std.specs.Prelude.{◌≡◌};
@@ -6,7 +6,8 @@ ghost use Rattle.homes.specs.Homes.{hash_of};
 ghost use Rattle.orders.specs.Orders.{orders_of};
 ghost use Rattle.state.specs.Model.{gateway};
 ghost use Rattle.state.specs.Open.{open_call};
-ghost use Rattle.tables.specs.Calls.{check_call, count_call};
+ghost use Rattle.protocol.specs.Calls.{close_call, order_found, turn_call, turn_table};
+ghost use Rattle.tables.specs.Calls.{check_call, count_call, list_front};
 ghost use Rattle.numbered.specs.Numbers.{reply_answer};
 ghost use Rattle.numbered.specs.Batch.{Promised};
 ghost use Rattle.rounds.specs.Rounds.{acks_of};
@@ -17,36 +18,62 @@ use answers::opened_answer;
 use homes::Hash;
 use orders::Order;
 use parallel::Parallel;
+use protocol::Turned;
 use singly::Calls;
-use state::{Device, Phase};
+use state::{Device, Phase, Replied};
 
+// ---- on a record, and the front part of a list
+// An order by a line that was found in the list lent, or by a worker and a key handed in.
+pub fn order_found(phase: Phase, found: Option<Order>, worker: usize, key: u32) -> Replied
+    ensures { result ≡ order_found gateway phase found worker key }
+{
+    calls::order_found(Device::Gateway, phase, found, worker, key)
+}
+
+// A turn of one worker.
+pub fn turn(phase: Phase, cells: &mut [u64], worker: usize) -> Turned
+    ensures { (result ≡ turn_call gateway phase cells.old worker) × (cells.new ≡ turn_table gateway phase cells.old worker) }
+{
+    calls::turn(Device::Gateway, phase, cells, worker)
+}
+
+pub fn close(phase: Phase) -> Replied
+    ensures { result ≡ close_call gateway phase }
+{
+    calls::close(Device::Gateway, phase)
+}
+
+// The entries in cell order at the front of `out`, which is handed back.
+pub fn list_front<'a>(hash: Hash, cells: &[u64], out: &'a mut [u64]) -> &'a mut [u64]
+    ensures { (result.now ≡ list_front gateway hash cells.now out.old) × (result.ref_ptr ≡ out.entry.ref_ptr) }
+{
+    rest::list_front(Device::Gateway, hash, cells, out)
+}
+
+// ---- for C and Rust: the crate that writes the archive exports them
 // Whether the table is sound by a and b: 0, or the number of the refusal.
-#[unsafe(no_mangle)]
-pub extern "C" fn vulzegan_check(a: u32, b: u32, cells: &[u64]) -> u64
+pub fn vulzegan_check(a: u32, b: u32, cells: &[u64]) -> u64
     ensures { result ≡ reply_answer (check_call gateway (hash_of a b) cells.now) }
 {
     answers::check(Device::Gateway, a, b, cells)
 }
 
 // How many keys the table has.
-#[unsafe(no_mangle)]
-pub extern "C" fn vulzegan_count(a: u32, b: u32, cells: &[u64]) -> u64
+pub fn vulzegan_count(a: u32, b: u32, cells: &[u64]) -> u64
     ensures { result ≡ counted_answer (count_call gateway (hash_of a b) cells.now) }
 {
     answers::count(Device::Gateway, a, b, cells)
 }
 
 // Lists the entries, each key with its price, in cell order at the front of `out`.
-#[unsafe(no_mangle)]
-pub extern "C" fn vulzegan_list(a: u32, b: u32, cells: &[u64], out: &mut [u64]) -> u64
+pub fn vulzegan_list(a: u32, b: u32, cells: &[u64], out: &mut [u64]) -> u64
     ensures { ListNumbers gateway (hash_of a b) cells.now out.old result out.new }
 {
     answers::list(Device::Gateway, a, b, cells, out)
 }
 
 // Reads a till list into a list of orders, lent as its keys, its prices and its workers, for a crew of so many: how many records the text has.
-#[unsafe(no_mangle)]
-pub extern "C" fn vulzegan_read_till(
+pub fn vulzegan_read_till(
     text: &[u8],
     count: u64,
     keys: &mut [u32],
@@ -60,15 +87,7 @@ pub extern "C" fn vulzegan_read_till(
 }
 
 // Whether a phase may be opened: 0, or the number of the refusal.
-#[unsafe(no_mangle)]
-pub extern "C" fn vulzegan_open(
-    kind: u64,
-    count: u64,
-    a: u32,
-    b: u32,
-    cells: &[u64],
-    orders: &[Order],
-) -> u64
+pub fn vulzegan_open(kind: u64, count: u64, a: u32, b: u32, cells: &[u64], orders: &[Order]) -> u64
     ensures { result ≡ reply_answer (open_call gateway kind count (hash_of a b) cells.now orders.now).reply }
 {
     let opened = Phase::open(Device::Gateway, kind, count, Hash { a, b }, cells, orders);
@@ -77,8 +96,7 @@ pub extern "C" fn vulzegan_open(
 
 // Opens a phase, an insert phase with a list of orders, and if the opening is accepted, applies calls, each lent that list: 0, or the number of the
 // opening's refusal.
-#[unsafe(no_mangle)]
-pub extern "C" fn vulzegan_run_calls(
+pub fn vulzegan_run_calls(
     kind: u64,
     count: u64,
     a: u32,
@@ -126,8 +144,7 @@ pub extern "C" fn vulzegan_run_calls(
 }
 
 // The same, each call by value with the phase tested at each, as single calls are.
-#[unsafe(no_mangle)]
-pub extern "C" fn vulzegan_run_calls_singly(
+pub fn vulzegan_run_calls_singly(
     kind: u64,
     count: u64,
     a: u32,
@@ -174,9 +191,9 @@ pub extern "C" fn vulzegan_run_calls_singly(
     )
 }
 
+// ---- reply rounds
 // Opens a round with the list sent: 0, or the number of the refusal.
-#[unsafe(no_mangle)]
-pub extern "C" fn vulzegan_round_open(
+pub fn vulzegan_round_open(
     count: u64,
     a: u32,
     b: u32,
@@ -198,8 +215,7 @@ pub extern "C" fn vulzegan_round_open(
 
 // Closes a round with the replies: how many labels are left, or the number of the refusal. `answers` takes the number of each reply's answer, 0 if it is
 // accepted, and `out` what is left.
-#[unsafe(no_mangle)]
-pub extern "C" fn vulzegan_round_close(
+pub fn vulzegan_round_close(
     count: u64,
     a: u32,
     b: u32,
@@ -225,9 +241,9 @@ pub extern "C" fn vulzegan_round_close(
     )
 }
 
+// ---- moves
 // Opens a move shift from the table `old` to the new one and, if the opening is accepted, applies calls: 0, or the number of the opening's refusal.
-#[unsafe(no_mangle)]
-pub extern "C" fn vulzegan_run_moves(
+pub fn vulzegan_run_moves(
     count: u64,
     a: u32,
     b: u32,

@@ -33,6 +33,21 @@ impl<'a> Lines for &'a [Order] {
     }
 }
 
+// Lent as an array of orders.
+impl<'a, const N: usize> Lines for &'a [Order; N] {
+    ghost orders = { λ list. list.now };
+
+    fn count(&self) -> usize {
+        let slice: &[Order] = *self;
+        slice.count()
+    }
+
+    fn line(&self, i: usize) -> Option<Order> {
+        let slice: &[Order] = *self;
+        slice.line(i)
+    }
+}
+
 // What is wrong with the earliest line that is not good.
 #[tactic(auto, using(crate::proofs::Faults::fault_rules))]
 pub fn lines_fault<L: Lines>(list: L, crew: u32) -> Result<(), Fault>

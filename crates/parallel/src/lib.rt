@@ -1,4 +1,4 @@
-// Lists of orders that are lent as three slices of numbers: the keys, the prices and the workers. Batches of calls and the sheet lend theirs so.
+// Lists of orders that are lent as three slices of numbers: the keys, the prices and the workers. Batches of calls lend theirs so.
 #![tactic(auto)]
 
 ghost use Rattle.orders.specs.Orders.{orders_of};

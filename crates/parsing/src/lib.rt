@@ -49,7 +49,8 @@ fn word_of(command: Command) -> &'static [u8]
     }
 }
 
-// The command of a word, if it is one's.
+// The command of a word, if it is one's. Called once for each line, as the next two are, and faster where they stand.
+#[inline(always)]
 #[tactic(auto, unfolding(lines::specs::Grammar::command_of))]
 fn command_of(word: &[u8]) -> Option<Command>
     ensures { result ≡ command_of word.now }
@@ -61,6 +62,7 @@ fn command_of(word: &[u8]) -> Option<Command>
 }
 
 // The numbers that the fields of `s` from `from` on write, if all are readable and they are not too many.
+#[inline(always)]
 fn numbers_of(s: &[u8], from: usize) -> Option<Numbers>
     ensures { result ≡ numbers_of (fields_of (drop from s.now)) }
 {
@@ -81,6 +83,7 @@ fn numbers_of(s: &[u8], from: usize) -> Option<Numbers>
 }
 
 // What the line says; its end of line is not part of it.
+#[inline(always)]
 pub fn read_line(line: &[u8]) -> Line
     ensures { result ≡ reading_of line.now }
 {

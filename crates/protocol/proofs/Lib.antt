@@ -14,5 +14,6 @@ pub mod Soundness
 pub mod Split
 pub mod Theorem
 pub mod Turning
+pub mod Walk
 pub mod WellFormed
 pub mod Writing

@@ -6,6 +6,7 @@ use Prim.Native.Nat.{ℕ, ◌+◌, ◌≤◌}
 use native.Mathlib.Omega.{arith}
 use lib.ListN.{length, take, drop, take-append-drop}
 use lib.Seq.{take_all}
+use Rattle.std.specs.Prelude.{Ok, Err, ⊤}
 use Rattle.orders.specs.declared.Order.{Order}
 use Rattle.feed.specs.Feed.{Kept, fed}
 use Rattle.feed.proofs.Parts.{fed-append, ended-fed}
@@ -43,7 +44,7 @@ module _ {k₀ : Kept} {block line cells : List ℕ} {items : List Order} {c : C
         }
 
     -- the replay ends in it
-    pub passes-ended : r.carried.ended ≡ true → Passes k₀ block line' cells' items' r.carried
+    pub passes-ended : {E : Type 0} → r.carried.ended ≡ true → Passes {U = ⊤} {E = E} k₀ block line' cells' items' r.carried (Ok tt)
     passes-ended over =
         let n = from + r.next in
         record {
@@ -55,6 +56,10 @@ module _ {k₀ : Kept} {block line cells : List ℕ} {items : List Order} {c : C
           few = few_on;
         }
 
+    -- what it prints could not be written
+    pub passes-failed : {E : Type 0} (e : E) → Passes {U = ⊤} {E = E} k₀ block line' cells' items' r.carried (Err e)
+    passes-failed e = record { kept = tt; held = f.held; few = few_on }
+
   -- the whole block is done
-  pub passes : length block ≤ from → Passes k₀ block line cells items c
+  pub passes : {E : Type 0} → length block ≤ from → Passes {U = ⊤} {E = E} k₀ block line cells items c (Ok tt)
   passes l = record { kept = b.kept ∙ ap (fed k₀) (take_all from block l); held = b.held; few = omega (arith, b.few, b.within) }

@@ -1,7 +1,7 @@
 // Replays the shift sheet on standard input, a block of bytes at a time.
 #![tactic(auto)]
 
-ghost use Rattle.std.specs.Prelude.{◌≡◌, ◌≤◌, length, IfOk};
+ghost use Rattle.std.specs.Prelude.{◌≤◌, length, IfOk};
 ghost use Rattle.sheet.specs.Replay.{longest_answer};
 ghost use Rattle.blocks.specs.Kept.{kept_of, Fit};
 ghost use Rattle.replay.specs.Read.{Passes, Brings};
@@ -37,68 +37,54 @@ fn flush(rt: &(impl Print + Eprint), out: &[u8]) -> io::Result<()> {
     written
 }
 
-// What a read answered. Where it failed, this says so on standard error.
-fn reported(rt: &impl Eprint, got: io::Result<usize>) -> io::Result<usize>
-    ensures { result ≡ got }
-{
-    if got.is_err() {
-        eprintln!(rt; "replay: cannot read standard input").is_ok();
-    }
-    got
-}
-
 // Answers the lines that end in a block, and writes what they print. An error is one of writing.
 fn block_done(
     rt: &(impl Print + Eprint),
-    mut carried: Carried,
+    carried: &mut Carried,
     block: &[u8],
     line: &mut [u8],
     cells: &mut [u64],
     items: &mut [Order],
     out: &mut [u8],
-) -> io::Result<Carried>
-    requires { Fit carried line.old cells.old items.old (length block.now) × (longest_answer ≤ length out.old) }
-    ensures { IfOk result (Passes (kept_of carried line.old cells.old items.old) block.now line.new cells.new items.new) }
+) -> io::Result<()>
+    requires { Fit carried.old line.old cells.old items.old (length block.now) × (longest_answer ≤ length out.old) }
+    ensures { Passes (kept_of carried.old line.old cells.old items.old) block.now line.new cells.new items.new carried.new result }
 {
     let mut from: usize = 0;
     while from < block.len() {
-        let filled = blocks::fill(carried, &block[from..], line, cells, items, out);
-        flush(rt, &out[..filled.at])?;
-        carried = filled.carried;
+        let filled = blocks::fill(*carried, &block[from..], line, cells, items, out);
+        *carried = filled.carried;
         from += filled.next;
+        flush(rt, &out[..filled.at])?;
         if carried.ended {
-            return Ok(carried);
+            return Ok(());
         }
     }
-    Ok(carried)
+    Ok(())
 }
 
-// What a read brought, done: how many bytes that is, and what is kept behind them.
-#[derive(Clone, Copy)]
-struct Brought {
-    carried: Carried,
-    count: usize,
-}
-
-// Answers the lines that end in what a read brought, of which `got` is the answer, and writes what they print.
+// Answers the lines that end in what a read brought, of which `got` is the answer, writes what they print, and answers how many bytes that is. Where the
+// read failed it says so on standard error.
 fn read_done(
     rt: &(impl Print + Eprint),
-    carried: Carried,
+    carried: &mut Carried,
     got: io::Result<usize>,
     block: &[u8],
     line: &mut [u8],
     cells: &mut [u64],
     items: &mut [Order],
     out: &mut [u8],
-) -> io::Result<Brought>
-    requires fit { Fit carried line.old cells.old items.old (length block.now) × (longest_answer ≤ length out.old) }
+) -> io::Result<usize>
+    requires fit { Fit carried.old line.old cells.old items.old (length block.now) × (longest_answer ≤ length out.old) }
     requires within { IfOk got (λ n. n ≤ length block.now) }
-    ensures count { IfOk result (λ r. got ≡ Ok r.count) }
-    ensures brings { IfOk result (Brings (kept_of carried line.old cells.old items.old) block.now line.new cells.new items.new) }
+    ensures { Brings (kept_of carried.old line.old cells.old items.old) got block.now line.new cells.new items.new carried.new result }
 {
-    let count = reported(rt, got)?;
-    let carried = block_done(rt, carried, &block[..count], line, cells, items, out)?;
-    Ok(Brought { carried, count })
+    if got.is_err() {
+        eprintln!(rt; "replay: cannot read standard input").is_ok();
+    }
+    let count = got?;
+    block_done(rt, carried, &block[..count], line, cells, items, out)?;
+    Ok(count)
 }
 
 // Replays the sheet to its end, to a line that ends the replay, or until reading or writing fails.
@@ -112,18 +98,24 @@ fn replay(rt: &HostRuntime) -> io::Result<()> {
     let mut left = u64::MAX;
     while (BLOCK as u64) < left {
         let got = rt.stdin().read(&mut block);
-        let brought = read_done(
-            rt, carried, got, &block, &mut line, &mut cells, &mut items, &mut out,
+        let count = read_done(
+            rt,
+            &mut carried,
+            got,
+            &block,
+            &mut line,
+            &mut cells,
+            &mut items,
+            &mut out,
         )?;
-        carried = brought.carried;
         if carried.ended {
             return Ok(());
         }
-        if brought.count == 0 {
+        if count == 0 {
             let at = blocks::last_line(carried, &line, &mut cells, &mut items, &mut out);
             return flush(rt, &out[..at]);
         }
-        left -= brought.count as u64;
+        left -= count as u64;
     }
     Ok(())
 }

@@ -1,6 +1,6 @@
 -- What each line of a sheet does, in a shut phase, in an open one and in either.
 use Rattle.std.specs.Prelude.{Ok, Err}
-use mathlib.Core.Path.{◌≡◌, refl, sym, ap, ◌∙◌}
+use mathlib.Core.Path.{◌≡◌, refl, sym, ap, ◌∙◌, subst}
 use mathlib.Core.Logic.{◌≢◌}
 use mathlib.Core.Bool.{Bool, true, false, cond}
 use mathlib.Core.List.{List, [], ◌∷◌, ◌++◌, map}
@@ -33,6 +33,7 @@ use Rattle.text.proofs.Test.{by-lt}
 use Rattle.lines.specs.Grammar.{word_of, most_numbers, padded, reading_of}
 use Rattle.lines.specs.declared.Command.{Command}
 use Rattle.lines.specs.declared.Line.{Line}
+use Rattle.lines.specs.declared.Numbers.{Numbers}
 use Rattle.lines.proofs.Words.{by-option}
 use Rattle.std.specs.Prelude.{Option, None, Some}
 use Rattle.fitting.specs.declared.Handling.{Handling}
@@ -40,7 +41,7 @@ use Rattle.fitting.specs.declared.Handling.TheVariants.{Performed}
 use Rattle.fitting.specs.declared.Task.{Task}
 use Rattle.fitting.specs.declared.Task.TheVariants.{Perform, Refuse}
 use Rattle.fitting.specs.Fitting.{most_items, order_numbers, item_handling, row_of, taken_by, handled, handling_in, reading_in}
-use Rattle.fitting.proofs.Fitting.{performs}
+use Rattle.fitting.proofs.Fitting.{taken-parts, performs}
 use Rattle.dealing.specs.Deal as dealing
 use Rattle.printing.specs.Fields.{reply_fields, finish_fields, told_fields}
 use Rattle.sheet.specs.Replay.{State, Step, Answer, answered, answer_of, no_finishes, most_sheet_cells, cells_task, items_after, commanded, list_told}
@@ -261,24 +262,28 @@ module _ (s : State) where
 
   -- ---- what a line leaves, by its command where it is carried out
   pub line-keeps : (l : List ℕ) (P : State → Type 0) → P s
-      → ((d : Command) (ns : List ℕ) → (reading_of l).command ≡ Some d → P (commanded s d ns).state) → P (answer_of s (reading_of l)).state
+      → ((d : Command) (n : Numbers) → (reading_of l).command ≡ Some d → (reading_of l).numbers ≡ Some n → P (commanded s d n.values).state)
+      → P (answer_of s (reading_of l)).state
   unfolding answer_of
   line-keeps l P same carried = by-reading (asked (reading_of l)) refl
     where
       by-reading : (r : Option Task) → asked (reading_of l) ≡ r → P (answered s r).state
       by-reading None e = same
-      by-reading (Some (Perform d ns)) e = carried d ns (performs s.phase.kind (length s.items) s.phase.shut (reading_of l) d ns e).0
+      by-reading (Some (Perform d ns)) e =
+          let (is, _, takes) = performs s.phase.kind (length s.items) s.phase.shut (reading_of l) d ns e in
+          let (n, q, _, valued) = taken-parts (row_of s.phase.kind (length s.items) d) (reading_of l).numbers ns takes in
+          subst (λ (vs : List ℕ). P (commanded s d vs).state) valued (carried d n is q)
       by-reading (Some Refuse) e = same
 
   keeps_items : (l : List ℕ) → (FirstIs (bytes_of "item") l → ⊥) → (FirstIs (bytes_of "close") l → ⊥) → (answer_of s (reading_of l)).state.items ≡ s.items
-  keeps_items l item close = line-keeps l (λ (x : State). x.items ≡ s.items) refl (λ d ns is.
-      task-items d ns
+  keeps_items l item close = line-keeps l (λ (x : State). x.items ≡ s.items) refl (λ d n is _.
+      task-items d n.values
       (λ z. item (says_first l Command.Item (is ∙ ap Some z)))
       (λ z. close (says_first l Command.Close (is ∙ ap Some z))))
 
   keeps_hash : (l : List ℕ) → (FirstIs (bytes_of "open") l → ⊥) → (answer_of s (reading_of l)).state.phase.hash ≡ s.phase.hash
-  keeps_hash l other = line-keeps l (λ (x : State). x.phase.hash ≡ s.phase.hash) refl (λ d ns is.
-      task-hash d ns (λ z. other (says_first l Command.Open (is ∙ ap Some z))))
+  keeps_hash l other = line-keeps l (λ (x : State). x.phase.hash ≡ s.phase.hash) refl (λ d n is _.
+      task-hash d n.values (λ z. other (says_first l Command.Open (is ∙ ap Some z))))
 
   pub in_either : InEither s
   unfolding bytes_of

@@ -52,4 +52,4 @@ module _ (s : State) (h : ByCalls s.phase) where
   task-by-calls Command.List ns = h
 
   pub line-by-calls : (l : List ℕ) → ByCalls (answer_of s (reading_of l)).state.phase
-  line-by-calls l = line-keeps s l (λ (x : State). ByCalls x.phase) h (λ d ns _. task-by-calls d ns)
+  line-by-calls l = line-keeps s l (λ (x : State). ByCalls x.phase) h (λ d n _ _. task-by-calls d n.values)

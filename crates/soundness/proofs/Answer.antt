@@ -15,7 +15,7 @@ use Rattle.ring.proofs.Each.{First, first-is, first_of, all-at}
 use Rattle.prices.specs.Contents.{label, cell_ok}
 use Rattle.prices.specs.Priced.{labels}
 use Rattle.flaws.specs.Flaws.{breaks, lowest, deciding, meets_empty, meets_key}
-use Rattle.soundness.specs.declared.Flaw.TheVariants.{Gap, Disorder}
+use Rattle.soundness.specs.declared.Flaw.TheVariants.{Cells, Gap, Disorder}
 use Rattle.soundness.specs.Faulty.{is_faulty, first_faulty, first_met}
 use Rattle.soundness.specs.Flaw.{flaw_of}
 use Rattle.soundness.proofs.Passing.{all-ends}
@@ -36,7 +36,13 @@ module _ (home : ℕ → ℕ) (t : List ℕ) where
   abbrev all_ok : Bool
   all_ok = all ok_at n
 
+  pub is-full : some_empty ≡ false → Err Cells ≡ flaw_of home t
+  is-full e = rw e
+
   module _ (some_is : some_empty ≡ true) where
+    pub not-ok : all_ok ≡ false → Err Cells ≡ flaw_of home t
+    not-ok e = rw (some_is, e)
+
     module _ {j : ℕ} (is : j ≡ first_faulty home t) where
       found : First (is_faulty home t) n j
       found = rw is (first-is (is_faulty home t) n)

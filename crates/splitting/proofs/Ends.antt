@@ -18,7 +18,7 @@ module _ (text : List ℕ) (at : ℕ) where
   at-end h = let z : at + 0 ≡ at = omega arith in rw (drop_of_length-le text h, z)
 
   module _ (h : at < length text) where
-    one : length text ≤ at + 1 → None ≡ end_from at (end_of (drop at text))
+    pub one : length text ≤ at + 1 → None ≡ end_from at (end_of (drop at text))
     unfolding end_of
     one k = let l : length text ≤ suc at = omega arith in rw (drop-cons text at 0 h, drop_of_length-le text l)
 

@@ -100,7 +100,7 @@ module _ (text : List ℕ) (at : ℕ) where
         first_found (drop at text) f.value f.count f.scan
         ∙ ap (λ (t : List ℕ). with_comma f.value f.count t) (drop-to text at f.count a.end f.place)
 
-    nothing-behind : length text ≤ a.end → Err Broken ≡ record_at text at
+    pub nothing-behind : length text ≤ a.end → Err Broken ≡ record_at text at
     nothing-behind h = record-broken (comma-next ∙ rw (drop_of_length-le text h))
 
     pub no-comma : eqb (get_or text a.end 0) 44 ≡ false → Err Broken ≡ record_at text at

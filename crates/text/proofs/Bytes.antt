@@ -14,6 +14,27 @@ use Rattle.text.specs.Promise.{FirstAt}
 use Rattle.text.proofs.Test.{by-test, by-lt, both_true}
 
 -- ---- the same bytes
+pub same-nil : same [] [] ≡ true
+unfolding same
+same-nil = refl
+
+pub same-cons : (a b : ℕ) (s t : List ℕ) → eqb a b ≡ true → same (a ∷ s) (b ∷ t) ≡ same s t
+unfolding same
+same-cons a b s t e = rw e
+
+pub same-other : (a b : ℕ) (s t : List ℕ) → eqb a b ≡ false → same (a ∷ s) (b ∷ t) ≡ false
+unfolding same
+same-other a b s t e = rw e
+
+pub same_length : (s t : List ℕ) → (length s ≡ length t → ⊥) → same s t ≡ false
+unfolding same
+same_length [] [] h = absurd (h refl)
+same_length [] (b ∷ t) h = refl
+same_length (a ∷ s) [] h = refl
+same_length (a ∷ s) (b ∷ t) h = by-test (eqb a b)
+    (λ e. rw e (same_length s t (λ q. h (omega arith))))
+    (λ e. rw e)
+
 pub same_true : (s t : List ℕ) → same s t ≡ true → s ≡ t
 unfolding same
 same_true [] [] h = refl

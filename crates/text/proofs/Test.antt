@@ -2,6 +2,7 @@
 use mathlib.Core.Path.{◌≡◌, refl}
 use mathlib.Core.Bool.{Bool, true, false, ◌&&◌}
 use Prim.Native.Nat.{ℕ, ◌≤◌, ◌<◌}
+use native.Mathlib.Omega.{arith}
 use borrow.Author.Tests.{ltb-true, ltb-false}
 use lib.Dec.{ltb}
 
@@ -14,6 +15,10 @@ by-lt a b f g = by-test (ltb a b) (λ e. f (ltb-true a b e)) (λ e. g (ltb-false
 
 pub true-false : {C : Type 0} → ◌≡◌ {A = Bool} true false → C
 true-false e = cc
+
+-- of two constructors of a type that are taken for one
+pub impossible {ℓ} : {C : Type ℓ} → ◌≡◌ {A = ℕ} 0 1 → C
+impossible z = absurd (omega arith)
 
 -- both of two tests
 pub both_true : (s t : Bool) → (s && t) ≡ true → (s ≡ true) × (t ≡ true)

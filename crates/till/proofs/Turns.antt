@@ -39,7 +39,7 @@ module _ {A : Type 0} (f : Order → A) (crew : ℕ) (text : List ℕ) where
       ∙ ap (λ (d : Dealt). written_at xs i (map f (d.order ∷ dealt_from crew text d.next k))) e
       ∙ ap (λ (os : List Order). written_at xs i (map f os)) (sym (dealt-more crew text c k))
 
-  fill_more : (n : ℕ) (xs : List A) (i : ℕ) (c : Cursor) (r : Dealt) → i < n → r ≡ dealt_at crew text c
+  pub fill_more : (n : ℕ) (xs : List A) (i : ℕ) (c : Cursor) (r : Dealt) → i < n → r ≡ dealt_at crew text c
       → filled n (set xs i (f r.order)) (i + 1) r.next ≡ filled n xs i c
   fill_more n xs i c r l e =
       let left : suc (n - (i + 1)) ≡ n - i = omega (arith, l) in
@@ -47,14 +47,14 @@ module _ {A : Type 0} (f : Order → A) (crew : ℕ) (text : List ℕ) where
       ∙ fill_one xs i (n - (i + 1)) c r e
       ∙ ap (λ (k : ℕ). written_at xs i (map f (dealt_from crew text c k))) left
 
-  fill_end : (n : ℕ) (xs : List A) (i : ℕ) (c : Cursor) → n ≤ i → filled n xs i c ≡ xs
+  pub fill_end : (n : ℕ) (xs : List A) (i : ℕ) (c : Cursor) → n ≤ i → filled n xs i c ≡ xs
   fill_end n xs i c l =
       let left : n - i ≡ 0 = omega (arith, l) in
       ap (λ (k : ℕ). written_at xs i (map f (dealt_from crew text c k))) left
       ∙ ap (λ (os : List Order). written_at xs i (map f os)) (dealt-none crew text c)
       ∙ written_none xs i
 
-fill_start : {A : Type 0} (f : Order → A) (M : Model) (text : List ℕ) (m places : ℕ) (old : List A) (b : Begun) → Ready M text m places b
+pub fill_start : {A : Type 0} (f : Order → A) (M : Model) (text : List ℕ) (m places : ℕ) (old : List A) (b : Begun) → Ready M text m places b
     → b.lines ≤ length old → filled f b.crew text b.lines old 0 start ≡ over (map f (till_orders M text m places)) old
 fill_start f M text m places old b ready h =
     let left : b.lines - 0 ≡ b.lines = omega arith in

@@ -21,6 +21,6 @@ loop-i-preserved g c =
             (turn-more h room w.if-op-eq2.true _ _ _ _ w.turn_in_place.ensures w.turn_in_place.auto.cells w.turn_answer.ensures)
         | else-op-eq1+else-op-eq2 w ↦
             rw (w.phase-is, w.cells-is, w.answers-is)
-            (close-more h room w.if-op-eq1.false w.if-op-eq2.false _ _ _ w.close_in_place.ensures w.reply_answer-else-op-eq2.ensures)
+            (close-more h room w.if-op-eq1.false w.if-op-eq2.false _ _ _ w.close_in_place.ensures.well_formed w.reply_answer-else-op-eq2.ensures)
       ];
     }
